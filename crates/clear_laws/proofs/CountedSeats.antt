@@ -154,17 +154,17 @@ module _ (s : Spilling) (b c : Block) (is : List Instr) (p : Code) (n : ℕ) (gt
   -- what it reads and writes
 
   abbrev ld : List Writes
-  ld = loads s b c is p n gt each-counts
+  ld = loads s b c is p n gt (λ j o m there def. each-counts j m)
 
   abbrev pub Read : Lane → Type 0
-  Read l = (IsFine s l × ReadIn (counted-as i) l) ⊎ (IsFurther s.func l × IsLoaded s n is gt.tinies i mi undefs (loads s b c is p n gt each-counts) l)
+  Read l = (IsFine s l × ReadIn (counted-as i) l) ⊎ (IsFurther s.func l × IsLoaded s n is gt.tinies i mi undefs (loads s b c is p n gt (λ j o m there def. each-counts j m)) l)
 
   pub read-from : (l : Lane) → ReadIn (counted-as (with_tinies s (seats_from s n is) i)) l → Read l
-  read-from l r = was-read s n is h i mi undefs ld (ways-loaded s b c is p n gt each-counts) (ties-loaded s b c is p n gt each-counts i mi) e all-fixed r.0 l r.1 r.2
+  read-from l r = was-read s n is h i mi undefs ld (ways-loaded s b c is p n gt (λ j o m there def. each-counts j m)) (ties-loaded s b c is p n gt (λ j o m there def. each-counts j m) i mi) e all-fixed r.0 l r.1 r.2
 
   written-from : (w : Write) → Member w (counted_writes s.target (spilled s) (rolled s (spilled s) n is gt.tinies i mi).effect (with_tinies s (seats_from s n is) i))
       → (IsFine s w.lane × ((y : Write) × Member y (counted_writes s.target (spilled s) (rolled s (spilled s) n is gt.tinies i mi).effect i) × (y.lane ≡ w.lane) × (y.early ≡ w.early))) ⊎ IsFurther s.func w.lane
-  written-from w m = was-written s n is h i mi undefs ld (ways-loaded s b c is p n gt each-counts) (ties-loaded s b c is p n gt each-counts i mi) e all-fixed w m
+  written-from w m = was-written s n is h i mi undefs ld (ways-loaded s b c is p n gt (λ j o m there def. each-counts j m)) (ties-loaded s b c is p n gt (λ j o m there def. each-counts j m) i mi) e all-fixed w m
 
   abbrev pub Told : (Lane → Type 0) → Lane → Type 0
   Told P l = Told-of s.target s.func (spilled s) s.range s.slot (is-wide s) (is-stored s) P l
@@ -191,19 +191,19 @@ module _ (s : Spilling) (b c : Block) (is : List Instr) (p : Code) (n : ℕ) (gt
       go (inr q) = inr q.0
 
   pub gives : (a l : Lane) → filled (writes_of (counted-as (with_tinies s (seats_from s n is) i))) a ≡ Moved (FromLane l) → (l ≡ a) × (Writing (counted-as (with_tinies s (seats_from s n is) i)) a → ⊥)
-  gives a l q = moves-none s n is h i mi undefs ld (ways-loaded s b c is p n gt each-counts) (ties-loaded s b c is p n gt each-counts i mi) e all-fixed a l q
+  gives a l q = moves-none s n is h i mi undefs ld (ways-loaded s b c is p n gt (λ j o m there def. each-counts j m)) (ties-loaded s b c is p n gt (λ j o m there def. each-counts j m) i mi) e all-fixed a l q
 
   pub keeps : (a : Lane) → IsFine s a → Writing (counted-as i) a → Writing (counted-as (with_tinies s (seats_from s n is) i)) a
-  keeps a fine w = still-written s n is h i mi undefs ld (ways-loaded s b c is p n gt each-counts) (ties-loaded s b c is p n gt each-counts i mi) e all-fixed a fine w
+  keeps a fine w = still-written s n is h i mi undefs ld (ways-loaded s b c is p n gt (λ j o m there def. each-counts j m)) (ties-loaded s b c is p n gt (λ j o m there def. each-counts j m) i mi) e all-fixed a fine w
 
   pub slotless : (m k w : ℕ) → Writing (counted-as i) (SlotLane m k w) → ⊥
-  slotless m k w y = wrote-no-slot s n is h i mi undefs ld (ways-loaded s b c is p n gt each-counts) (ties-loaded s b c is p n gt each-counts i mi) e all-fixed m k w y
+  slotless m k w y = wrote-no-slot s n is h i mi undefs ld (ways-loaded s b c is p n gt (λ j o m there def. each-counts j m)) (ties-loaded s b c is p n gt (λ j o m there def. each-counts j m) i mi) e all-fixed m k w y
 
   -- the tinies that it reads are loaded
-  pub loaded : (a : Lane) → IsFurther s.func a → ReadIn (counted-as (with_tinies s (seats_from s n is) i)) a → (ws : Writes) × Member ws (loads s b c is p n gt each-counts) × Wrote ws a
+  pub loaded : (a : Lane) → IsFurther s.func a → ReadIn (counted-as (with_tinies s (seats_from s n is) i)) a → (ws : Writes) × Member ws (loads s b c is p n gt (λ j o m there def. each-counts j m)) × Wrote ws a
   loaded a far r = go (read-from a r)
     where
-      go : Read a → (ws : Writes) × Member ws (loads s b c is p n gt each-counts) × Wrote ws a
+      go : Read a → (ws : Writes) × Member ws (loads s b c is p n gt (λ j o m there def. each-counts j m)) × Wrote ws a
       go (inl q) = absurd (not-both s a q.0 far)
       go (inr q) = q.1
 
@@ -217,4 +217,4 @@ module _ (s : Spilling) (b c : Block) (is : List Instr) (p : Code) (n : ℕ) (gt
     pub inside : Member j (own_lanes s operand.index)
 
   pub own-wrote : (j : ℕ) → Writing (counted-as i) (VirtualLane s.range j) → Owns j
-  own-wrote j w = let o = own-written s n is h i mi undefs ld (ways-loaded s b c is p n gt each-counts) (ties-loaded s b c is p n gt each-counts i mi) e all-fixed j w in record { k = o.k; q = o.q; operand = o.operand; own = o.own; def = o.def; inside = o.inside }
+  own-wrote j w = let o = own-written s n is h i mi undefs ld (ways-loaded s b c is p n gt (λ j o m there def. each-counts j m)) (ties-loaded s b c is p n gt (λ j o m there def. each-counts j m) i mi) e all-fixed j w in record { k = o.k; q = o.q; operand = o.operand; own = o.own; def = o.def; inside = o.inside }

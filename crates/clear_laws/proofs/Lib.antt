@@ -38,3 +38,6 @@ pub mod TinyLoads
 pub mod TinySaves
 pub mod CountedSeats
 pub mod CountedKept
+pub mod EndsKept
+pub mod ConstantKept
+pub mod PointsWide

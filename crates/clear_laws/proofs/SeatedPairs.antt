@@ -63,7 +63,7 @@ alike-by Q [] (u ∷ us) e h = absurd (omega (arith, e))
 alike-by Q (a ∷ ss) [] e h = absurd (omega (arith, e))
 alike-by Q (a ∷ ss) (u ∷ us) e h = (h a u first, alike-by Q ss us (omega (arith, e)) (λ b w m. h b w (later m)))
 
-alike-self : (Q : Rel) (ss : List Source) → ((u : Source) → Member u ss → Q u u) → AlikeReads Q ss ss
+pub alike-self : (Q : Rel) (ss : List Source) → ((u : Source) → Member u ss → Q u u) → AlikeReads Q ss ss
 alike-self Q [] h = tt
 alike-self Q (u ∷ ss) h = (h u first, alike-self Q ss (λ w m. h w (later m)))
 
@@ -73,7 +73,7 @@ alike-source Q [] (w ∷ us) z u m = absurd z
 alike-source Q (a ∷ ss) [] z u m = absurd z
 alike-source Q (a ∷ ss) (w ∷ us) z u m = member-elim u w us (λ e. (a, first, subst (Q a) (sym e) z.0)) (λ k. let y = alike-source Q ss us z.1 u k in (y.0, later y.1, y.2)) m
 
-alike-operand : (Q : Rel) (xs ys : Reads) → AlikeOperands Q xs ys → (us : List Source) (u : Source) → Member us ys → Member u us → (ss : List Source) × (a : Source) × Member ss xs × Member a ss × Q a u
+pub alike-operand : (Q : Rel) (xs ys : Reads) → AlikeOperands Q xs ys → (us : List Source) (u : Source) → Member us ys → Member u us → (ss : List Source) × (a : Source) × Member ss xs × Member a ss × Q a u
 alike-operand Q [] [] z us u m n = absurd (member-none us m)
 alike-operand Q [] (y ∷ ys) z us u m n = absurd z
 alike-operand Q (x ∷ xs) [] z us u m n = absurd z

@@ -16,7 +16,7 @@ use Rattle.spill_laws.specs.Standing.{instrs_of}
 use Rattle.spill_laws.proofs.Joined.{ids_change_nothing}
 
 -- instructions that are no phis are the items that they are
-point-items : (t : Target) (g : Function) (d : Block) (js : List Instr) → ((j : Instr) → Member j js → does is_phi t j ≡ false) → map (point_item t g d) js ≡ map (item_of t g d) js
+pub point-items : (t : Target) (g : Function) (d : Block) (js : List Instr) → ((j : Instr) → Member j js → does is_phi t j ≡ false) → map (point_item t g d) js ≡ map (item_of t g d) js
 point-items t g d [] h = refl
 point-items t g d (j ∷ js) h = λ k. as-item t g d j (h j first) k ∷ point-items t g d js (λ i m. h i (later m)) k
 

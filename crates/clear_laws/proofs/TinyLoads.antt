@@ -57,7 +57,7 @@ use Rattle.clear_laws.proofs.TiedLoads.{TiedUse, by, tied-further, tied-given, t
 use Rattle.clear_laws.proofs.TinyPlaces.{DefinedTiny, IsOwn, TiedTo, register-inside}
 use Rattle.clear_laws.proofs.WayLoads.{ReadBy, read-by, way-further, way-given, way-gives, way-loaded}
 
-module _ (s : Spilling) (b c : Block) (p : List Instr) (q : Code) (n : ℕ) (gt : GetsTinies s (spilled s) b c p q n) (counts : (i : Instr) → Member i p → does is_silent s.target i ≡ false) where
+module _ (s : Spilling) (b c : Block) (p : List Instr) (q : Code) (n : ℕ) (gt : GetsTinies s (spilled s) b c p q n) (counts : (i : Instr) (o : RegOp) → Member i p → Member (operands.Reg o) i.operands → o.def ≡ false → does is_silent s.target i ≡ false) where
   abbrev t : Target
   t = s.target
 
@@ -94,7 +94,7 @@ module _ (s : Spilling) (b c : Block) (p : List Instr) (q : Code) (n : ℕ) (gt 
     known = (rolled s g n p h i mi).known
 
     counted : is_silent (rolled s (spilled s) n p gt.tinies i mi).effect ≡ false
-    counted = sym (ap (passes is_silent) known) ∙ counts i mi
+    counted = sym (ap (passes is_silent) known) ∙ counts i o mi (operand-there s g n p h i mi k r o own.among) def
 
     in-reads : Member (use_sources t f o) (reads_of (item_of t f b i))
     in-reads =

@@ -1,12 +1,11 @@
 -- What is stored behind an instruction with tinies: what it writes to tinies of its definitions of the range.
 use Rattle.std.proofs.Common.{◌≡◌, ◌≤◌, ◌⊎◌, inl, inr, ◌+◌, ◌∷◌, ◌++◌, ◌∙◌, ◌&&◌, not, ℕ, Bool, true, false, cond, List, Option, Some, None, flat_map, length, map, refl, sym, ap, subst, []}
 use Rattle.std.proofs.lemmas.List.{length-map}
-use Rattle.target_base.specs.declared.types.Effect.{Effect}
 use Rattle.target_base.specs.declared.types.Role.{Role}
 use Rattle.target_base.specs.declared.types.Target.{Target}
 use Rattle.meaning.specs.Code.{Code, Item, Silent}
 use Rattle.meaning.specs.Lanes.{Writes, filled}
-use Rattle.meaning.specs.Live.{Among as Member, here as first, writes_of}
+use Rattle.meaning.specs.Live.{Among as Member, LiveAfter, here as first, writes_of}
 use Rattle.meaning.specs.declared.types.Fill.TheVariants.{Moved}
 use Rattle.meaning.specs.declared.types.Lane.{Lane}
 use Rattle.meaning.specs.declared.types.Lane.TheVariants.{SlotLane, VirtualLane}
@@ -18,35 +17,32 @@ use Rattle.mir_func.specs.declared.func.Operand.TheVariants as operands
 use Rattle.mir_func.specs.declared.func.Instr.{Instr}
 use Rattle.mir_func.specs.declared.func.Block.{Block}
 use Rattle.mir_func.specs.Value.{Function}
-use Rattle.mir_func.specs.Binding.{definitions, roles_of}
+use Rattle.mir_func.specs.Binding.{is_definition}
 use Rattle.mir_meaning.specs.Codes.{item_of}
-use Rattle.mir_meaning.specs.Items.{counted_writes, further_writes, results}
-use Rattle.mir_meaning.specs.Registers.{numbers, operand_lanes, range_widths}
-use Rattle.instr_effects.proofs.Members.{flat-of, left-in, map-in, map-of, member-elim, member-none}
-use Rattle.live_laws.proofs.Effects.Shapes.{class-there}
-use Rattle.lowering_laws.proofs.RulesStay.{lanes}
-use Rattle.lowering_laws.proofs.Seated.{register-in}
+use Rattle.mir_meaning.specs.Registers.{is_reserved, numbers, operand_lanes, range_widths}
+use Rattle.instr_effects.proofs.Members.{flat-in, flat-of, map-in, map-of, member-elim, member-none}
 use Rattle.lowering_laws.proofs.Traced.{lanes_by}
 use Rattle.spiller.specs.Rematerialised.{ways_read}
-use Rattle.spiller.specs.Setting.{Spilling, is_own, own_lanes}
+use Rattle.spiller.specs.Setting.{Spilling, in_own_slot, is_own, own_lanes, plain_use, store}
 use Rattle.spiller.specs.Spilled.{OwnDefinition, Seats, as_tiny, numbered_operands, place_change, seated, seated_operand, seats_from, spilled, stored, tiny_defined, tiny_of, tiny_used, with_tinies}
 use Rattle.spill_laws.specs.Laws.{HasTinies}
 use Rattle.spill_laws.specs.Seats.{save_writes}
-use Rattle.spill_laws.specs.Standing.{IsSetting}
+use Rattle.spill_laws.specs.Standing.{IsSetting, code_before, code_from}
 use Rattle.spill_laws.proofs.OwnOperands.{defined-site, definition-once, explicit, site-of}
-use Rattle.spill_laws.proofs.SeatedPlaces.{definition-in-all}
 use Rattle.spill_laws.proofs.SlotPlaces.{width}
-use Rattle.spill_laws.proofs.SpillItems.{own-lanes-are}
 use Rattle.spill_laws.proofs.TinyRules.{operand-there}
-use Rattle.clear_laws.proofs.CountedItems.{results-in}
-use Rattle.clear_laws.proofs.DefinitionTinies.{defined-by, definition-widths, save-given, save-lane, stored-item}
+use Rattle.clear_laws.proofs.DefinitionTinies.{defined-by, definition-widths, save-all, save-given, save-lane, stored-item, stored-there}
 use Rattle.clear_laws.proofs.PlaceBounds.{Wrote}
 use Rattle.clear_laws.proofs.Seated.{IsFurther}
-use Rattle.clear_laws.proofs.SeatedLoads.{writes-by, writes-of}
+use Rattle.clear_laws.proofs.SpillPoints.{is-wide}
+use Rattle.clear_laws.proofs.TinyPlaces.{IsOwn, tiny-at}
+use Rattle.clear_laws.proofs.SeatedLoads.{writes-by, writes-in, writes-of}
 use Rattle.spill_laws.proofs.Ranges.{numbered-of}
 use Rattle.spiller.specs.Spilled.{definitions_in}
 
-module _ (s : Spilling) (i : Instr) (n : ℕ) (h : HasTinies s (spilled s) n (i ∷ [])) (z : IsSetting s (spilled s)) (c : Block) (e : Effect) where
+module _ (s : Spilling) (i : Instr) (n : ℕ) (h : HasTinies s (spilled s) n (i ∷ [])) (z : IsSetting s (spilled s)) (c : Block) (was-written now-written : Writes)
+    (own-in : (o : RegOp) → Member (operands.Reg o) i.operands → is_own s o ≡ true → is_definition o ≡ true → (j : ℕ) → Member j (own_lanes s o.index) → Wrote was-written (VirtualLane s.range j))
+    (tiny-in : (o : RegOp) (k : ℕ) → Member (operands.Reg (as_tiny o k)) (with_tinies s (seats_from s n (i ∷ [])) i).operands → o.def ≡ true → (l : Lane) → Member l (operand_lanes s.target (spilled s) (as_tiny o k)) → Wrote now-written l) where
   abbrev t : Target
   t = s.target
 
@@ -64,12 +60,6 @@ module _ (s : Spilling) (i : Instr) (n : ℕ) (h : HasTinies s (spilled s) n (i 
 
   abbrev now : Instr
   now = with_tinies s (seats_from s n (i ∷ [])) i
-
-  abbrev was-written : Writes
-  was-written = counted_writes s.target (spilled s) e i
-
-  abbrev now-written : Writes
-  now-written = counted_writes s.target (spilled s) e (with_tinies s (seats_from s n (i ∷ [])) i)
 
   -- a definition of the range that has a tiny
 
@@ -102,11 +92,7 @@ module _ (s : Spilling) (i : Instr) (n : ℕ) (h : HasTinies s (spilled s) n (i 
       let o = a.operand in
       let there = operand-there s g n (i ∷ []) h i first w.number a.role o a.among in
       let not-implicit = explicit s g n (i ∷ []) h i first w.number a.role o a.among a.own in
-      let d = definition-in-all t i o there (λ q. a.def q && not (not-implicit q)) in
-      let class = class-there t f i (h.shaped i first) o (register-in o i.operands there) in
-      let lane : Member (VirtualLane s.range j) (operand_lanes t g o) = subst (Member (VirtualLane s.range j)) (sym (lanes t f g h.keeps o.loc o.index class ∙ own-lanes-are s o a.own)) (map-in (VirtualLane s.range) j (own_lanes s o.index) (subst (λ y. Member j (own_lanes s y)) a.index mj)) in
-      let y = results-in t g 0 (definitions (roles_of t i) i.operands) (d.0, o) (VirtualLane s.range j) d.1 lane in
-      (y.0, left-in y.0 (results t g 0 (definitions (roles_of t i) i.operands)) (further_writes t g e i) y.1, y.2)
+      own-in o there a.own (λ q. a.def q && not (not-implicit q)) j (subst (λ y. Member j (own_lanes s y)) a.index mj)
 
   -- with tinies it writes those of the tiny
   tiny-written : (k : ℕ) (w : OwnDefinition) → Member (k, w) x.definitions → (l : Lane) → Member l (lanes_by k (numbers 0 (length (own_lanes s w.index)))) → Wrote now-written l
@@ -118,13 +104,11 @@ module _ (s : Spilling) (i : Instr) (n : ℕ) (h : HasTinies s (spilled s) n (i 
       let tiny : tiny_of s x i w.number a.role o ≡ Some k = (λ q. cond (a.def q) (tiny_defined x i w.number) (tiny_used s x i a.role o)) ∙ (d.is ∙ ap (λ (v : ℕ × OwnDefinition). Some v.0) (sym one)) in
       let seat : seated s x i w.number a.role o ≡ as_tiny o k = λ q. cond (a.own q) (elim (tiny q) as (λ y. RegOp) [ None ↦ o | Some v ↦ as_tiny o v ]) o in
       let there : Member (operands.Reg (as_tiny o k)) now.operands = subst (λ y. Member (operands.Reg y) now.operands) seat (map-in (seated_operand s x i) (w.number, (a.role, operands.Reg o)) (numbered_operands t i) a.among) in
-      let b = definition-in-all t now (as_tiny o k) there (λ q. a.def q && true) in
       let has = definition-widths s n (i ∷ []) h k w m (defined-by s n (i ∷ []) h w (numbered-of (n + length (ways_read s (i ∷ []))) (definitions_in s (i ∷ [])) (k, w) m)) in
       let index = (defined-by s n (i ∷ []) h w (numbered-of (n + length (ways_read s (i ∷ []))) (definitions_in s (i ∷ [])) (k, w) m)).index in
       let many : length (range_widths t g k) ≡ length (own_lanes s w.index) = ap length has.wide ∙ (ap (λ y. length (map (width s) (own_lanes s y))) (sym index) ∙ length-map (own_lanes s w.index) (width s)) in
       let lane : Member l (operand_lanes t g (as_tiny o k)) = subst (Member l) (λ q. lanes_by k (numbers 0 (sym many q))) ml in
-      let y = results-in t g 0 (definitions (roles_of t now) now.operands) (b.0, as_tiny o k) l b.1 lane in
-      (y.0, left-in y.0 (results t g 0 (definitions (roles_of t now) now.operands)) (further_writes t g e now) y.1, y.2)
+      tiny-in o k there a.def l lane
 
   -- each store is of a definition
 
@@ -164,3 +148,20 @@ module _ (s : Spilling) (i : Instr) (n : ℕ) (h : HasTinies s (spilled s) n (i 
               let v = map-of (VirtualLane o.k) l (numbers 0 (length (own_lanes s o.by.index))) q in
               let has = definition-widths s n (i ∷ []) h o.k o.by o.among (defined-by s n (i ∷ []) h o.by (numbered-of (n + length (ways_read s (i ∷ []))) (definitions_in s (i ∷ [])) (o.k, o.by) o.among)) in
               inr ((o.k, v.0, v.2, has.further), tiny-written o.k o.by o.among l q)
+
+  -- lanes that are live behind it are stored, where it writes them
+  pub saved-to : (k : ℕ) (q : Option Role) (o : RegOp) → IsOwn s (spilled s) n (i ∷ []) h i first k q o → o.def ≡ true → (j : ℕ) → Member j (own_lanes s o.index) → (w : ℕ) → is-wide s w
+      → (y : Item) (p : Code) → code_from s i.id ≡ y ∷ p → LiveAfter (is_reserved s.target) (code_before s) y p (VirtualLane s.range j) → (ws : Writes) × Member ws saves × Wrote ws (SlotLane s.slot j w)
+  saved-to k q o own def j mj w wd y p from live =
+      let v = tiny-at s g n (i ∷ []) h i first k q o own def in
+      let m = v.0 in
+      let d = v.2.by in
+      let st = store t d.class (plain_use (Virtual m) None) (in_own_slot s d.index) in
+      let inside : Member j (own_lanes s d.index) = subst (λ u. Member j (own_lanes s u)) (sym v.2.index) mj in
+      let at : code_from s d.by.id ≡ y ∷ p = ap (λ (u : Instr). code_from s u.id) v.2.instr ∙ from in
+      let there = stored-there s n (i ∷ []) h z c m d j y p at inside live in
+      let item = stored-item s n (i ∷ []) h z c m d v.2.among st there in (
+        writes_of (item_of t g c st),
+        writes-in t g c (place_change s n (i ∷ [])).behind st (flat-in (stored s) st (m, d) x.definitions v.2.among there),
+        subst (λ u. Wrote (writes_of u) (SlotLane s.slot j w)) (sym item) (save-all s (record { tiny = m; lanes = own_lanes s d.index }) j w inside wd),
+      )
