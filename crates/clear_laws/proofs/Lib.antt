@@ -41,3 +41,5 @@ pub mod CountedKept
 pub mod EndsKept
 pub mod ConstantKept
 pub mod PointsWide
+pub mod NeedlessKept
+pub mod EffectsKept

@@ -1,6 +1,6 @@
 -- Copies, stores, reloads and IMPLICIT_DEFs that don't name the range stay as they are.
 use Rattle.std.proofs.Common.{◌≡◌, inl, inr, ◌∷◌, ◌++◌, ◌∙◌, ◌&&◌, ℕ, Bool, true, false, cond, List, Some, None, length, map, refl, sym, ap, subst, []}
-use Rattle.std.specs.Prelude.{option_map}
+use Rattle.std.specs.Prelude.{option_map, sum}
 use Rattle.target_base.specs.declared.types.Effect.{Effect}
 use Rattle.target_base.specs.declared.types.Effect.TheVariants as effects
 use Rattle.target_base.specs.declared.types.Target.{Target}
@@ -24,7 +24,7 @@ use Rattle.mir_func.specs.declared.func.Block.{Block}
 use Rattle.mir_func.specs.Value.{Function}
 use Rattle.mir_func.specs.Binding.{does, effect_of, is_early_clobber, is_terminator, puts_together, roles_of}
 use Rattle.mir_meaning.specs.Codes.{item_of, target_of, way, ways_out}
-use Rattle.mir_meaning.specs.Items.{at_all_widths, copied, counted_writes, defined, defined_undef, lanes_beside, moved, reloaded, rest_of, silent_reads, silent_writes, spilled as store_given, undefined, values, widths_once}
+use Rattle.mir_meaning.specs.Items.{at_all_widths, constant_lanes, constant_of, copied, counted_writes, defined, defined_undef, given_constant, lanes_beside, moved, reloaded, rest_of, silent_reads, silent_writes, spilled as store_given, undefined, values, widths_once}
 use Rattle.mir_meaning.specs.Registers.{operand_lanes, operand_widths, slot_lane_numbers, undefined_lanes, use_sources, whole_lanes}
 use Rattle.instr_effects.proofs.Members.{either-elim, map-of, member-none}
 use Rattle.lowering_laws.proofs.Traced.{filled-left, filled-right, is_written}
@@ -42,12 +42,14 @@ use Rattle.clear_laws.proofs.SlotMovePlaces.{slots-of}
 use Rattle.clear_laws.proofs.SpillPoints.{is-stored, is-wide}
 use Rattle.lowering_laws.proofs.Classes.{AreNamed}
 
--- a move between registers, to a slot, or from one
+-- a move between registers, to a slot, or from one, or of a constant
 abbrev pub moves_lanes : Effect → Type 0
 moves_lanes effects.Copy = Unit {0}
 moves_lanes effects.ImplicitDef = Unit {0}
 moves_lanes effects.Spill = Unit {0}
 moves_lanes effects.Reload = Unit {0}
+moves_lanes effects.Const = Unit {0}
+moves_lanes effects.Addr = Unit {0}
 moves_lanes e = ⊥
 
 -- Writes of lanes of a slot are at all widths at which stores write, and give them lanes of registers.
@@ -96,6 +98,10 @@ module _ (t : Target) (f : Function) where
   reloads-slotless : (early : Bool) (os : List Operand) (w : Write) → Member w (reloaded t f early os) → is_slot w.lane ≡ false
   reloads-slotless early (operands.Reg o ∷ operands.Stack s ∷ k ∷ os) w m = defined-slotless early o (map FromLane (lanes_beside t f o s k)) w m
   reloads-slotless early os w m = absurd (member-none w m)
+
+  constants-slotless : (early : Bool) (os : List Operand) (w : Write) → Member w (given_constant t f early os) → is_slot w.lane ≡ false
+  constants-slotless early (operands.Reg d ∷ o ∷ os) w m = defined-slotless early d (constant_lanes t f d (constant_of (sum (operand_widths t f d)) o)) w m
+  constants-slotless early os w m = absurd (member-none w m)
 
   -- a store
   module _ (slot : ℕ) (o : RegOp) (m : ℕ) (x : Operand) where
@@ -148,6 +154,8 @@ module _ (t : Target) (f : Function) where
   moves-slotted slot effects.ImplicitDef early os h = slotless-slotted t slot (defined_undef t f os) (undefs-slotless os)
   moves-slotted slot effects.Spill early os h = stores-slotted slot os
   moves-slotted slot effects.Reload early os h = slotless-slotted t slot (reloaded t f early os) (reloads-slotless early os)
+  moves-slotted slot effects.Const early os h = slotless-slotted t slot (given_constant t f early os) (constants-slotless early os)
+  moves-slotted slot effects.Addr early os h = slotless-slotted t slot (given_constant t f early os) (constants-slotless early os)
   moves-slotted slot e early os h = absurd (h)
 
 pub moves-silent : (e : Effect) → moves_lanes e → is_silent e ≡ true
@@ -155,6 +163,8 @@ moves-silent effects.Copy h = refl
 moves-silent effects.ImplicitDef h = refl
 moves-silent effects.Spill h = refl
 moves-silent effects.Reload h = refl
+moves-silent effects.Const h = refl
+moves-silent effects.Addr h = refl
 moves-silent e h = absurd (h)
 
 -- an instruction that moves lanes, and names the range nowhere, stays
