@@ -43,3 +43,4 @@ pub mod ConstantKept
 pub mod PointsWide
 pub mod NeedlessKept
 pub mod EffectsKept
+pub mod SpillKept

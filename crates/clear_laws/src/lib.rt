@@ -1,11 +1,12 @@
 //! Laws of registers without clashes: what a run does to its function and to the registers of ranges leaves none.
 //!
 //! Each is the contract of a function, so that a check proves it. A run begins with `nothing_law`, gives and takes registers by
-//! `assign_law` and `unassign_law`, splits by `split_law`, and ends with `end_law`.
+//! `assign_law` and `unassign_law`, splits by `split_law`, spills by `spill_law`, and ends with `end_law`.
 #![tactic(auto)]
 
 ghost use Rattle.clear_laws.specs.Apart.{AssignKeepsApart, EndIsClear, NothingIsApart, PointsKeepApart, SetChangesOne, UnassignKeepsApart};
 ghost use Rattle.clear_laws.specs.Edits.{SplitKeepsApart, SplitKeepsPoints};
+ghost use Rattle.clear_laws.specs.Spills.{SpillKeepsApart, SpillKeepsPoints, SpillKeepsSlots};
 
 /// Where no range has a register there are no clashes.
 pub fn nothing_law()
@@ -40,6 +41,21 @@ pub fn split_points_law()
 /// so that it leaves no clashes, where the range has no register and its parts get none.
 pub fn split_law()
     ensures { SplitKeepsApart }
+{}
+
+/// A spill to a slot that is apart from the range makes other ranges and units live nowhere else,
+pub fn spill_points_law()
+    ensures { SpillKeepsPoints }
+{}
+
+/// and lanes of slots neither, but for those that take the range's place, where no reload has an early-clobber definition.
+pub fn spill_slots_law()
+    ensures { SpillKeepsSlots }
+{}
+
+/// So it leaves no clashes, where the range has no register and the ranges that are made get none.
+pub fn spill_law()
+    ensures { SpillKeepsApart }
 {}
 
 /// Where each range that is named has a register, the registers are those by which a function is rewritten.
