@@ -1,27 +1,24 @@
 -- A constant or an address for the range, with its tiny, keeps what its place has to.
 use Rattle.std.proofs.Common.{◌≡◌, ◌≤◌, ◌⊎◌, inl, inr, ◌∷◌, ◌++◌, ◌∙◌, ◌&&◌, not, ℕ, Bool, true, false, cond, List, Option, Some, None, length, map, refl, sym, ap, subst, arith, []}
-use Rattle.std.specs.Prelude.{option_and_then}
 use Rattle.target_base.specs.declared.types.Role.{Role}
 use Rattle.target_base.specs.declared.types.Target.{Target}
 use Rattle.target_base.specs.Roles.{is_silent}
 use Rattle.target_base.specs.Rules.{is_phi}
 use Rattle.target_base.proofs.Tests.{first_of_both}
-use Rattle.meaning.specs.Code.{Code, Item, Silent}
+use Rattle.meaning.specs.Code.{Code, Silent}
 use Rattle.meaning.specs.Lanes.{Writes, filled}
-use Rattle.meaning.specs.Live.{Among as Member, Live, Writing, after_next, here as first, is_slot, writes_of}
+use Rattle.meaning.specs.Live.{Among as Member, Live, Writing, after_next, here as first}
 use Rattle.meaning.specs.declared.types.Fill.TheVariants.{Moved}
 use Rattle.meaning.specs.declared.types.Lane.{Lane}
 use Rattle.meaning.specs.declared.types.Lane.TheVariants.{SlotLane, VirtualLane}
-use Rattle.meaning.specs.declared.types.Source.{Source}
 use Rattle.meaning.specs.declared.types.Source.TheVariants.{FromLane}
-use Rattle.mir_func.specs.declared.func.Loc.TheVariants.{Virtual}
 use Rattle.mir_func.specs.declared.func.RegOp.{RegOp}
 use Rattle.mir_func.specs.declared.func.Operand.{Operand}
 use Rattle.mir_func.specs.declared.func.Operand.TheVariants as operands
 use Rattle.mir_func.specs.declared.func.Instr.{Instr}
 use Rattle.mir_func.specs.declared.func.Block.{Block}
 use Rattle.mir_func.specs.Value.{Function}
-use Rattle.mir_func.specs.Binding.{Bound, does, explicit_bound, explicit_roles, is_definition, is_early_clobber, numbered, passes, registers, roles_of, takes_many}
+use Rattle.mir_func.specs.Binding.{does, explicit_bound, explicit_roles, is_definition, is_early_clobber, numbered, registers, roles_of, takes_many}
 use Rattle.mir_meaning.specs.Codes.{item_of}
 use Rattle.mir_meaning.specs.Items.{moved}
 use Rattle.mir_meaning.specs.Registers.{is_reserved, located_lanes, located_widths, numbers, operand_lanes, range_widths}
@@ -34,12 +31,12 @@ use Rattle.spiller.specs.Setting.{Spilling, is_own, own_lanes}
 use Rattle.spiller.specs.Spilled.{Seats, as_tiny, numbered_operands, place_change, seated, seated_operand, seats_from, spilled, tiny_defined, tiny_of, tiny_used, with_tinies}
 use Rattle.spill_laws.specs.Laws.{HasTinies}
 use Rattle.spill_laws.specs.Seats.{Load, load_writes}
-use Rattle.spill_laws.specs.Standing.{IsConstant, IsSite, code_before}
+use Rattle.spill_laws.specs.Standing.{IsSite, code_before}
 use Rattle.spill_laws.specs.TinyPlaces.{GetsTinies}
 use Rattle.spill_laws.proofs.Constants.{AlwaysConstant, ConstantOperands, const_sources, constant-item, given-is, sources-constant, sources-long}
 use Rattle.spill_laws.proofs.CopyPlaces.{none-of}
 use Rattle.spill_laws.proofs.SlotWrites.{moved-lane, moved-written, write-of}
-use Rattle.spill_laws.proofs.SpillItems.{lane-slotless, own-lanes-are}
+use Rattle.spill_laws.proofs.SpillItems.{own-lanes-are}
 use Rattle.spill_laws.proofs.TinyApart.{none-before}
 use Rattle.clear_laws.proofs.CountedSeats.{place-plain}
 use Rattle.clear_laws.proofs.PlaceBounds.{Wrote, is-further}
@@ -48,7 +45,7 @@ use Rattle.clear_laws.proofs.Replaced.{Held}
 use Rattle.clear_laws.proofs.Seated.{IsFurther, IsSeated}
 use Rattle.clear_laws.proofs.SeatedLoads.{load-all, load-given, load-lane, silent-items}
 use Rattle.clear_laws.proofs.SeatedPoints.{seated-kept}
-use Rattle.clear_laws.proofs.SilentForms.{IsFine, not-fine}
+use Rattle.clear_laws.proofs.SilentForms.{not-fine}
 use Rattle.clear_laws.proofs.SpillPoints.{goes-on, is-stored, is-wide}
 use Rattle.clear_laws.proofs.TinyItems.{numbered-by, numbered-items}
 use Rattle.clear_laws.proofs.TinyLoads.{HeldAt, load-further, load-gives, load-item, loads}

@@ -1,5 +1,5 @@
 -- A counted instruction that is no terminator, with its tinies, keeps what its place has to.
-use Rattle.std.proofs.Common.{◌≡◌, ◌<◌, ◌≤◌, ◌⊎◌, inl, inr, ◌+◌, ◌∷◌, ◌++◌, ◌∙◌, ◌&&◌, not, ℕ, Bool, true, false, cond, List, Option, Some, None, flat_map, length, map, refl, sym, ap, subst, arith, []}
+use Rattle.std.proofs.Common.{◌≡◌, ◌⊎◌, inl, inr, ◌∷◌, ◌++◌, ◌∙◌, ◌&&◌, ℕ, Bool, true, false, cond, List, refl, sym, ap, subst, []}
 use Rattle.target_base.specs.declared.types.Effect.{Effect}
 use Rattle.target_base.specs.declared.types.Target.{Target}
 use Rattle.target_base.specs.Roles.{is_silent}
@@ -16,9 +16,8 @@ use Rattle.mir_func.specs.declared.func.Instr.{Instr}
 use Rattle.mir_func.specs.declared.func.Block.{Block}
 use Rattle.mir_func.specs.Value.{Function}
 use Rattle.mir_func.specs.Binding.{definitions, does, is_definition, is_terminator, passes, roles_of}
-use Rattle.mir_meaning.specs.Codes.{item_of, ways_out}
+use Rattle.mir_meaning.specs.Codes.{ways_out}
 use Rattle.mir_meaning.specs.Items.{further_writes, results}
-use Rattle.mir_meaning.specs.Points.{point_item}
 use Rattle.mir_meaning.specs.Registers.{is_reserved, operand_lanes}
 use Rattle.instr_effects.proofs.Members.{left-in, map-in, member-elim, member-none}
 use Rattle.live_laws.proofs.Effects.Shapes.{class-there}

@@ -1,5 +1,5 @@
 -- A counted instruction with its tinies, as an item: what it reads and writes, beside what it did.
-use Rattle.std.proofs.Common.{◌≡◌, ◌<◌, ◌≤◌, ◌⊎◌, inl, inr, ◌+◌, ◌∷◌, ◌++◌, ◌∙◌, ◌&&◌, not, ℕ, Bool, true, false, cond, List, Option, Some, None, flat_map, length, map, refl, sym, ap, subst, arith, []}
+use Rattle.std.proofs.Common.{◌≡◌, ◌<◌, ◌≤◌, ◌⊎◌, inl, inr, ◌++◌, ◌∙◌, ◌&&◌, not, ℕ, true, false, cond, List, Option, Some, length, map, refl, sym, ap, subst, arith, []}
 use Rattle.std.specs.Prelude.{option_map}
 use Rattle.target_base.specs.declared.types.Effect.{Effect}
 use Rattle.target_base.specs.declared.types.Effect.TheVariants as effects
@@ -10,13 +10,12 @@ use Rattle.target_base.specs.Rules.{is_phi}
 use Rattle.target_base.proofs.Tests.{first_of_both}
 use Rattle.meaning.specs.Code.{Code, Counted, Item, Silent}
 use Rattle.meaning.specs.Lanes.{Writes, filled}
-use Rattle.meaning.specs.Live.{Among as Member, Live, Writing, WritingEarly, after_next, here as first, in_order, writes_of}
+use Rattle.meaning.specs.Live.{Among as Member, Writing, WritingEarly, writes_of}
 use Rattle.meaning.specs.declared.types.Fill.TheVariants.{Moved}
 use Rattle.meaning.specs.declared.types.Lane.{Lane}
 use Rattle.meaning.specs.declared.types.Lane.TheVariants.{SlotLane, VirtualLane}
 use Rattle.meaning.specs.declared.types.Source.TheVariants.{FromLane}
 use Rattle.meaning.specs.declared.types.Write.{Write}
-use Rattle.mir_func.specs.declared.func.Loc.TheVariants.{Virtual}
 use Rattle.mir_func.specs.declared.func.RegOp.{RegOp}
 use Rattle.mir_func.specs.declared.func.Instr.{Instr}
 use Rattle.mir_func.specs.declared.func.Block.{Block}
@@ -24,20 +23,16 @@ use Rattle.mir_func.specs.Value.{Function}
 use Rattle.mir_func.specs.Binding.{does, effect_of, implicit_registers, is_early_clobber, is_terminator, is_virtual, passes, puts_together, registers, roles_of}
 use Rattle.mir_meaning.specs.Codes.{item_of, target_of, way, ways_out}
 use Rattle.mir_meaning.specs.Items.{Value, counted_writes, rest_of, silent_reads, silent_writes, values}
-use Rattle.mir_meaning.specs.Points.{point_item}
-use Rattle.mir_meaning.specs.Registers.{is_reserved}
 use Rattle.mir_meaning.specs.Renaming.{IsFixed}
-use Rattle.instr_effects.proofs.Members.{either-elim, filter-in, flat-in, left-in, member-elim, member-none, right-in}
+use Rattle.instr_effects.proofs.Members.{either-elim, filter-in, left-in, right-in}
 use Rattle.live_laws.proofs.Effects.Lists.{all-of}
 use Rattle.live_laws.proofs.Effects.Shapes.{class-there}
 use Rattle.live_laws.proofs.Touch.Roles.{fit, has_roles, met}
 use Rattle.lowering_laws.proofs.Classes.{AreNamed}
-use Rattle.split_laws.proofs.Splitting.{as-item}
-use Rattle.spiller.specs.Setting.{Spilling, in_own_slot, own_lanes, plain_use, store}
-use Rattle.spiller.specs.Spilled.{OwnDefinition, Seats, place_change, seats_from, spilled, stored, with_tinies}
-use Rattle.spill_laws.specs.Laws.{HasTinies, IsInForm}
-use Rattle.spill_laws.specs.Seats.{save_writes}
-use Rattle.spill_laws.specs.Standing.{IsSite, code_before, code_from, instrs_of}
+use Rattle.spiller.specs.Setting.{Spilling, own_lanes}
+use Rattle.spiller.specs.Spilled.{place_change, seats_from, spilled, with_tinies}
+use Rattle.spill_laws.specs.Laws.{HasTinies}
+use Rattle.spill_laws.specs.Standing.{instrs_of}
 use Rattle.spill_laws.specs.TinyPlaces.{GetsTinies}
 use Rattle.spill_laws.proofs.Beside.{besides_keep_rules}
 use Rattle.spill_laws.proofs.CountedPlaces.{fixed-of, no-parts}
@@ -48,20 +43,14 @@ use Rattle.spill_laws.proofs.SpillItems.{item-known}
 use Rattle.spill_laws.proofs.TinyForm.{tinies_keep_rules}
 use Rattle.spill_laws.proofs.TinyRules.{rolled}
 use Rattle.spill_laws.proofs.Touched.{UndefsFixed}
-use Rattle.clear_laws.proofs.DefinitionTinies.{save-all, save-of, stored-item, stored-there}
 use Rattle.clear_laws.proofs.PlaceBounds.{Wrote, as-itself, is-further}
-use Rattle.clear_laws.proofs.PlacesKept.{PlaceKept}
-use Rattle.clear_laws.proofs.Replaced.{Held, Told-of}
-use Rattle.clear_laws.proofs.Seated.{IsFurther, IsSeated, ReadIn, silents}
-use Rattle.clear_laws.proofs.SeatedLoads.{silent-items, writes-in}
+use Rattle.clear_laws.proofs.Replaced.{Told-of}
+use Rattle.clear_laws.proofs.Seated.{IsFurther, ReadIn}
 use Rattle.clear_laws.proofs.SeatedPairs.{IsLoaded, moves-none, own-written, still-written, was-read, was-written, wrote-no-slot}
-use Rattle.clear_laws.proofs.SeatedPoints.{seated-kept}
 use Rattle.clear_laws.proofs.SilentForms.{IsFine}
-use Rattle.clear_laws.proofs.SpillPoints.{goes-on, is-stored, is-wide}
-use Rattle.clear_laws.proofs.TinyItems.{numbered-by, numbered-items}
-use Rattle.clear_laws.proofs.TinyLoads.{HeldAt, load-further, load-gives, load-item, loads, ties-loaded, ways-loaded}
+use Rattle.clear_laws.proofs.SpillPoints.{is-stored, is-wide}
+use Rattle.clear_laws.proofs.TinyLoads.{loads, ties-loaded, ways-loaded}
 use Rattle.clear_laws.proofs.TinyPlaces.{IsOwn}
-use Rattle.clear_laws.proofs.TinySaves.{save-gives, save-item, save-lanes, saves}
 
 counts-no-phi : (e : Effect) → is_silent e ≡ false → is_phi e ≡ false
 counts-no-phi effects.Phi h = absurd (cc)

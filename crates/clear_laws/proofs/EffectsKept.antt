@@ -1,5 +1,5 @@
 -- Each instruction that a spill changes keeps what its place has to, whatever its effect.
-use Rattle.std.proofs.Common.{◌≡◌, ◌+◌, ◌≤◌, ◌∷◌, ◌++◌, ◌∙◌, ◌&&◌, not, ℕ, Bool, true, false, cond, List, Option, Some, None, length, map, refl, sym, ap, subst, arith, eqb-true, []}
+use Rattle.std.proofs.Common.{◌≡◌, ◌+◌, ◌∷◌, ◌∙◌, ◌&&◌, not, ℕ, Bool, true, false, cond, List, Option, Some, None, map, refl, sym, ap, subst, arith, eqb-true, []}
 use Rattle.std.specs.Prelude.{is_none, nat_eq, option_and_then, slice_get}
 use Rattle.target_base.specs.declared.types.ClassId.{ClassId}
 use Rattle.target_base.specs.declared.types.Effect.{Effect}
@@ -11,7 +11,7 @@ use Rattle.target_base.specs.Roles.{has_shape, is_definition as is_definition_ro
 use Rattle.target_base.specs.Rules.{is_phi}
 use Rattle.target_base.specs.Storage.{same_numbers}
 use Rattle.target_base.proofs.Tests.{first_of_both, second_of_both}
-use Rattle.meaning.specs.Code.{Code, Item}
+use Rattle.meaning.specs.Code.{Code}
 use Rattle.meaning.specs.Live.{Among as Member, here as first}
 use Rattle.meaning.specs.declared.types.Lane.TheVariants.{SlotLane}
 use Rattle.mir_func.specs.declared.func.RegOp.{RegOp}
@@ -37,7 +37,7 @@ use Rattle.lowering_laws.proofs.Seated.{bound-role, role-tied, some-role}
 use Rattle.split_laws.proofs.Splitting.{as-item}
 use Rattle.spiller.specs.Rematerialised.{copy_reading, is_constant, is_needless, repeated, repeated_for}
 use Rattle.spiller.specs.Setting.{Spilling, class_beside, in_own_slot, is_live_behind, is_own, moving_class, own_class, own_lanes, part_class, plain_definition, reload, store, undef_use}
-use Rattle.spiller.specs.Spilled.{Change, becomes, change, copied_in, copied_out, copied_within, copy_change, effect_change, in_place_of, is_own_part, place_change, slot_change, spilled, through_tiny, undefined_change}
+use Rattle.spiller.specs.Spilled.{Change, becomes, change, copied_in, copied_out, copied_within, copy_change, effect_change, in_place_of, place_change, slot_change, spilled, through_tiny}
 use Rattle.spill_laws.specs.Laws.{is_placed}
 use Rattle.spill_laws.specs.SpillPlaces.{IsPart, IsPlace, alone, ends}
 use Rattle.spill_laws.specs.Standing.{IsAt}

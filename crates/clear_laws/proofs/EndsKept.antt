@@ -1,6 +1,5 @@
 -- Terminators with their tinies keep what their place has to: they define nothing of the range.
-use Rattle.std.proofs.Common.{◌≡◌, ◌⊎◌, inl, inr, ◌+◌, ◌∷◌, ◌++◌, ◌∙◌, ◌&&◌, ℕ, Bool, true, false, cond, List, Some, flat_map, length, map, refl, sym, ap, subst, append-nil, []}
-use Rattle.std.specs.Prelude.{option_map}
+use Rattle.std.proofs.Common.{◌≡◌, ◌⊎◌, inl, inr, ◌+◌, ◌∷◌, ◌++◌, ◌∙◌, ◌&&◌, ℕ, Bool, true, false, cond, List, flat_map, length, map, refl, sym, ap, subst, append-nil, []}
 use Rattle.target_base.specs.declared.types.Effect.{Effect}
 use Rattle.target_base.specs.declared.types.Effect.TheVariants as effects
 use Rattle.target_base.specs.declared.types.Target.{Target}
@@ -131,8 +130,10 @@ module _ (s : Spilling) (b c : Block) (is : List Instr) (p : Code) (n : ℕ) (gt
         go : IsKept s.target s.func (spilled s) s.range s.slot (is-wide s) (is-stored s) q k.k → IsKept s.target s.func (spilled s) s.range s.slot (is-wide s) (is-stored s) (item_of t f b j ∷ q) k.k
         go (inl y) = inl (y.0, y.1, next site.order y.2 (unwritten (writes_of (item_of t f b j)) (SlotLane s.slot k.k y.0) (λ w. slotless s b c is p n gt each-counts j mj s.slot k.k y.0 (wrote (SlotLane s.slot k.k y.0) w))) refl)
         go (inr y) =
-            inr (next site.order y.0 (unwritten (writes_of (item_of t f b j)) (VirtualLane s.range k.k) (λ w. own k.k (wrote (VirtualLane s.range k.k) w))) refl,
-            (goes-on s).back (item_of t f b j) q k.k site.order (λ w. own k.k (wrote (VirtualLane s.range k.k) w)) y.1)
+            inr (
+              next site.order y.0 (unwritten (writes_of (item_of t f b j)) (VirtualLane s.range k.k) (λ w. own k.k (wrote (VirtualLane s.range k.k) w))) refl,
+              (goes-on s).back (item_of t f b j) q k.k site.order (λ w. own k.k (wrote (VirtualLane s.range k.k) w)) y.1,
+            )
 
   -- all of them
 

@@ -1,5 +1,5 @@
 -- The items of a function in lowered form move lanes of slots at the widths of units alone: only reloads read them.
-use Rattle.std.proofs.Common.{◌≡◌, ◌+◌, ◌∷◌, ◌++◌, ◌∙◌, ◌&&◌, not, ℕ, suc, Bool, true, false, cond, List, Option, Some, None, length, map, refl, sym, ap, subst, []}
+use Rattle.std.proofs.Common.{◌≡◌, ◌+◌, ◌∷◌, ◌++◌, ◌∙◌, ◌&&◌, not, ℕ, suc, Bool, true, false, cond, List, Some, length, map, refl, sym, ap, subst, []}
 use Rattle.std.specs.Prelude.{option_map, sum}
 use Rattle.target_base.specs.declared.types.Effect.{Effect}
 use Rattle.target_base.specs.declared.types.Effect.TheVariants as effects
@@ -137,7 +137,7 @@ module _ (t : Target) where
     reloads-wide early (operands.Reg o ∷ operands.Stack s ∷ k ∷ os) h =
         defined-wide early o (map FromLane (lanes_beside t f o s k))
         (λ a b u m. (let y = map-of FromLane (FromLane (SlotLane a b u)) (lanes_beside t f o s k) m in
-            h o first u (slot-width s _ (operand_widths t f o) a b u (subst (λ l. Member l (lanes_beside t f o s k)) (sym (source-lane (SlotLane a b u) y.0 y.2)) y.1))))
+        h o first u (slot-width s _ (operand_widths t f o) a b u (subst (λ l. Member l (lanes_beside t f o s k)) (sym (source-lane (SlotLane a b u) y.0 y.2)) y.1))))
     reloads-wide early os h = none-wide
 
     silent-wide : (e : Effect) (early : Bool) (os : List Operand) → puts_together e ≡ false → ((o : RegOp) → Member o (registers os) → (w : ℕ) → Member w (operand_widths t f o) → Wide t w) → FillsWide (silent_writes t f e early os)

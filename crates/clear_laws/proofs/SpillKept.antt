@@ -1,7 +1,6 @@
 -- Each place of a function with a range spilled keeps what it has to.
-use Rattle.std.proofs.Common.{◌≡◌, ◌≤◌, ◌+◌, ◌∷◌, ◌++◌, ◌∙◌, ◌&&◌, ℕ, Bool, true, false, cond, List, Option, Some, None, length, map, refl, sym, ap, subst, append_assoc, []}
+use Rattle.std.proofs.Common.{◌≡◌, ◌≤◌, ◌∷◌, ◌++◌, ◌∙◌, ◌&&◌, ℕ, Bool, true, false, cond, List, Option, Some, None, length, map, refl, sym, ap, subst, append_assoc, []}
 use Rattle.std.specs.List.{list_all}
-use Rattle.target_base.specs.declared.types.ClassId.{ClassId}
 use Rattle.target_base.specs.declared.types.Effect.{Effect}
 use Rattle.target_base.specs.declared.types.Target.{Target}
 use Rattle.target_base.specs.Rules.{is_phi}
@@ -13,7 +12,7 @@ use Rattle.mir_func.specs.declared.func.Block.{Block}
 use Rattle.mir_func.specs.Value.{Function}
 use Rattle.mir_func.specs.Binding.{does, effect_of, is_terminator, passes}
 use Rattle.mir_meaning.specs.Codes.{block_end, blocks_code, item_of, way}
-use Rattle.mir_meaning.specs.Points.{from_instr, point_item, points_of}
+use Rattle.mir_meaning.specs.Points.{point_item, points_of}
 use Rattle.mir_meaning.specs.Rules.{V1}
 use Rattle.instr_effects.proofs.Members.{left-in, member-elim, member-none, right-in}
 use Rattle.live_laws.proofs.Effects.Lists.{all-of}
@@ -30,7 +29,7 @@ use Rattle.spill_laws.specs.Named.{HasFixedUndefs}
 use Rattle.spill_laws.specs.Refined.{SlotApart}
 use Rattle.spill_laws.specs.SpillPlaces.{IsPart, IsPlace, alone, ends}
 use Rattle.spill_laws.specs.Standing.{IsSetting, code_from}
-use Rattle.spill_laws.specs.TinyPlaces.{AreAt, GetsTinies, IsBlock}
+use Rattle.spill_laws.specs.TinyPlaces.{AreAt, IsBlock}
 use Rattle.spill_laws.proofs.Following.{bare-ways-of, item-in-order, item-inside}
 use Rattle.spill_laws.proofs.InForm.{in-lowered-form, once, one-instr}
 use Rattle.spill_laws.proofs.Kept.{in-order}

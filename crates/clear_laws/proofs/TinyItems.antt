@@ -1,5 +1,5 @@
 -- The instructions of a place with tinies as items, whatever ids are given to new ones.
-use Rattle.std.proofs.Common.{◌≡◌, ◌+◌, ◌∷◌, ◌++◌, ◌∙◌, ℕ, suc, true, false, List, length, map, refl, ap, []}
+use Rattle.std.proofs.Common.{◌≡◌, ◌+◌, ◌∷◌, ◌++◌, ◌∙◌, ℕ, suc, false, List, length, map, refl, ap, []}
 use Rattle.target_base.specs.declared.types.Target.{Target}
 use Rattle.target_base.specs.Rules.{is_phi}
 use Rattle.meaning.specs.Live.{Among as Member, here as first, there as later}

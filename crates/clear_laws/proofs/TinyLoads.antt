@@ -1,5 +1,5 @@
 -- What is loaded before a place with tinies is what the slot holds of lanes that the place reads.
-use Rattle.std.proofs.Common.{◌≡◌, ◌⊎◌, inl, inr, ◌+◌, ◌∷◌, ◌++◌, ◌∙◌, ◌&&◌, not, ℕ, Bool, true, false, cond, List, Option, Some, None, flat_map, length, map, refl, sym, ap, subst, eq-eqb, []}
+use Rattle.std.proofs.Common.{◌≡◌, ◌⊎◌, inl, inr, ◌∷◌, ◌∙◌, ◌&&◌, not, ℕ, Bool, true, false, cond, List, Option, Some, None, flat_map, map, refl, sym, ap, subst, eq-eqb, []}
 use Rattle.std.specs.Prelude.{filter, filter_map, nat_eq, option_and_then}
 use Rattle.target_base.specs.declared.types.Effect.{Effect}
 use Rattle.target_base.specs.declared.types.Effect.TheVariants as effects
@@ -16,12 +16,11 @@ use Rattle.meaning.specs.declared.types.Lane.TheVariants.{VirtualLane}
 use Rattle.meaning.specs.declared.types.Source.TheVariants.{FromLane, Undef}
 use Rattle.mir_func.specs.declared.func.Loc.TheVariants.{Virtual}
 use Rattle.mir_func.specs.declared.func.RegOp.{RegOp}
-use Rattle.mir_func.specs.declared.func.Operand.{Operand}
 use Rattle.mir_func.specs.declared.func.Operand.TheVariants as operands
 use Rattle.mir_func.specs.declared.func.Instr.{Instr}
 use Rattle.mir_func.specs.declared.func.Block.{Block}
 use Rattle.mir_func.specs.Value.{Function}
-use Rattle.mir_func.specs.Binding.{Bound, TiedPair, does, effect_of, explicit_bound, explicit_operands, explicit_roles, immediate_of, implicit_registers, implicit_roles, passes, registers, roles_of, tied_number, tied_pair, tied_pairs}
+use Rattle.mir_func.specs.Binding.{TiedPair, does, effect_of, explicit_bound, explicit_operands, explicit_roles, immediate_of, implicit_registers, implicit_roles, passes, registers, roles_of, tied_number, tied_pair, tied_pairs}
 use Rattle.mir_meaning.specs.Codes.{item_of}
 use Rattle.mir_meaning.specs.Items.{Value, first_width, implicit_values, use_value, value_of, values}
 use Rattle.mir_meaning.specs.Places.{Variable, is_defining}
@@ -31,21 +30,20 @@ use Rattle.live_laws.proofs.Effects.Shapes.{class-there, index-there}
 use Rattle.lowering_laws.proofs.Formed.{tied-seat}
 use Rattle.lowering_laws.proofs.Seated.{bound-operand, pair-of, pair_with, seated-use, told-in}
 use Rattle.spiller.specs.Reaching.{Reads}
-use Rattle.spiller.specs.Rematerialised.{tied_readings, way_reading, ways_read}
+use Rattle.spiller.specs.Rematerialised.{tied_readings, ways_read}
 use Rattle.spiller.specs.Setting.{Spilling, in_own_slot, is_own, own_lanes, plain_definition, reload}
-use Rattle.spiller.specs.Spilled.{OwnDefinition, Seats, given, numbered_operands, place_change, seats_from, spilled, tied_reload}
+use Rattle.spiller.specs.Spilled.{OwnDefinition, Seats, given, place_change, seats_from, spilled, tied_reload}
 use Rattle.spill_laws.specs.Laws.{HasTinies, is_placed}
 use Rattle.spill_laws.specs.Standing.{IsStored, code_before, code_from, slot_lane}
 use Rattle.spill_laws.specs.TinyPlaces.{GetsTinies}
 use Rattle.spill_laws.proofs.InForm.{place-in}
-use Rattle.spill_laws.proofs.OwnOperands.{among, pair-shares}
+use Rattle.spill_laws.proofs.OwnOperands.{among}
 use Rattle.spill_laws.proofs.PlaceReadings.{item-is}
 use Rattle.spill_laws.proofs.Ranges.{numbered-of}
 use Rattle.spill_laws.proofs.SameUses.{use-same}
 use Rattle.spill_laws.proofs.SlotPlaces.{width}
 use Rattle.spill_laws.proofs.SpillItems.{own-lanes-are, own-move}
 use Rattle.spill_laws.proofs.TinyRules.{operand-there, rolled}
-use Rattle.spill_laws.proofs.Touched.{UndefsFixed}
 use Rattle.clear_laws.proofs.KnownReadings.{reader-in, tied-known, way-known}
 use Rattle.clear_laws.proofs.PlaceBounds.{Wrote}
 use Rattle.clear_laws.proofs.Replaced.{Held}
@@ -152,8 +150,12 @@ module _ (s : Spilling) (b c : Block) (p : List Instr) (q : Code) (n : ℕ) (gt 
           → ((l ≡ a) × (Wrote (writes_of (item_of t g c (given s p (k, v)))) a → ⊥)) ⊎ ((j : ℕ) × Member j (own_lanes s v.index) × (l ≡ slot_lane s j) × IsStored s j (item_of t f b w.instr ∷ x.0)) → ((l ≡ a) × (Wrote (writes_of (item_of t g c (given s p (k, v)))) a → ⊥)) ⊎ ((i : Instr) × Member i p × HeldAt i l)
       go w x index (inl y) = inl y
       go w x index (inr y) =
-          inr (w.instr, w.inside, subst (λ u. Held t f g s.range s.slot (is-wide s) (is-stored s) u l) (sym x.1)
-          (lane-held w.instr w.inside w.k w.q w.operand w.own w.used w.plain x.0 y.0 l (subst (λ u. Member y.0 (own_lanes s u)) index y.1) y.2 y.3))
+          inr (
+            w.instr,
+            w.inside,
+            subst (λ u. Held t f g s.range s.slot (is-wide s) (is-stored s) u l) (sym x.1)
+                (lane-held w.instr w.inside w.k w.q w.operand w.own w.used w.plain x.0 y.0 l (subst (λ u. Member y.0 (own_lanes s u)) index y.1) y.2 y.3),
+          )
 
   tie-gives-held : (k : ℕ) (w : OwnDefinition) → Member (k, w) z.definitions → (j : Instr) → Member j (tied_reload s (k, w)) → GivesHeld (writes_of (item_of t g c j))
   tie-gives-held k w m j mj a l e =
@@ -184,8 +186,12 @@ module _ (s : Spilling) (b c : Block) (p : List Instr) (q : Code) (n : ℕ) (gt 
           → ((l ≡ a) × (Wrote (writes_of (item_of t g c j)) a → ⊥)) ⊎ ((v : ℕ) × Member v (own_lanes s y.tied_use.index) × (l ≡ slot_lane s v) × IsStored s v (item_of t f b i ∷ x.0)) → ((l ≡ a) × (Wrote (writes_of (item_of t g c j)) a → ⊥)) ⊎ ((i : Instr) × Member i p × HeldAt i l)
       go i mi y u def undef x (inl v) = inl v
       go i mi y u def undef x (inr v) =
-          inr (i, mi, subst (λ w. Held t f g s.range s.slot (is-wide s) (is-stored s) w l) (sym x.1)
-          (lane-held i mi u.k u.q y.tied_use u.own def undef x.0 v.0 l v.1 v.2 v.3))
+          inr (
+            i,
+            mi,
+            subst (λ w. Held t f g s.range s.slot (is-wide s) (is-stored s) w l) (sym x.1)
+                (lane-held i mi u.k u.q y.tied_use u.own def undef x.0 v.0 l v.1 v.2 v.3),
+          )
 
   -- each load is of a way of reading or of a tied use
 
