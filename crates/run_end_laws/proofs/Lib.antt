@@ -1,0 +1,4 @@
+pub mod Reached
+pub mod States
+pub mod Refining
+pub mod Ends

@@ -1,0 +1,4 @@
+pub mod Premises
+pub mod Allocating
+pub mod States
+pub mod Ends
