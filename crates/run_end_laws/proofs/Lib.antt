@@ -2,3 +2,4 @@ pub mod Reached
 pub mod States
 pub mod Refining
 pub mod Ends
+pub mod Moved

@@ -16,6 +16,7 @@ use Rattle.live_edits.specs.Folded.{names_range}
 use Rattle.spiller.specs.Slots.{Slots}
 use Rattle.rewriter.specs.LiveUnits.{is_live_unit}
 use Rattle.rewriter.specs.Physical.{Assignment, physical_form, register_of}
+use Rattle.slot_laws.specs.Homes.{AreHomes, function_moved}
 use Rattle.ready_laws.specs.Frames.{slot_numbers}
 use Rattle.run_end_laws.specs.Allocating.{IsAllocating, IsPrepared}
 use Rattle.run_end_laws.specs.Premises.{Premises}
@@ -39,3 +40,12 @@ AllocatedIsValid =
     → Premises live.target → IsPrepared live.target freqs source js f s → IsAllocating live.target f s live.func r rs → AreAssigned live.func rs
     → map (λ p. p.0) slots ≡ slot_numbers r → IsComputed live.target live.func live.table → length rs ≤ 4294967296
     → IsValid live.target forms.Allocated (physical_form live.target rs slots (is_live_unit live rs) live.func)
+
+-- So it is behind that where slots go to others: it does what the source does, and is valid.
+abbrev pub MovedIsCorrect : Type 0
+MovedIsCorrect =
+    (live : LiveFunc) (freqs : List ℕ) (source f : Function) (js : List Join) (s r : Slots) (rs : Assignment) (slots : List (ℕ × ClassId)) (home : ℕ → ℕ) (head : List ℕ)
+    → Premises live.target → IsPrepared live.target freqs source js f s → IsAllocating live.target f s live.func r rs → AreAssigned live.func rs
+    → map (λ p. p.0) slots ≡ slot_numbers r → IsComputed live.target live.func live.table → length rs ≤ 4294967296
+    → let g = physical_form live.target rs slots (is_live_unit live rs) live.func in AreHomes live.target g home
+    → refines live.target source (function_moved home head g) × IsValid live.target forms.Allocated (function_moved home head g)

@@ -1,14 +1,14 @@
 //! Laws of a whole allocation: its end does what the source does, and is valid.
 //!
-//! Each is the contract of a function, so that a check proves it. Begin with `refines_end_law` and `valid_end_law`, the last two:
-//! a valid source is lowered and joined; its ranges get registers and lose them, are split and are spilled; and once each range
-//! that is named has a register, the function in physical form does what the source does, and is a valid allocated function.
-//! `state_law` says what each state on the way keeps, and `step_law` what a step does. What isn't proved yet of the parts is a
-//! premise, in one record.
+//! Each is the contract of a function, so that a check proves it. Begin with `refines_end_law`, `valid_end_law` and
+//! `moved_end_law`, the last three: a valid source is lowered and joined; its ranges get registers and lose them, are split and
+//! are spilled; and once each range that is named has a register, the function in physical form does what the source does, and
+//! is a valid allocated function, also where slots go to others behind that. `state_law` says what each state on the way keeps,
+//! and `step_law` what a step does. What isn't proved yet of the parts is a premise, in one record.
 #![tactic(auto)]
 
 ghost use Rattle.run_end_laws.specs.Allocating.{AllocatingIsReached};
-ghost use Rattle.run_end_laws.specs.Ends.{AllocatedIsValid, AllocatedRefines};
+ghost use Rattle.run_end_laws.specs.Ends.{AllocatedIsValid, AllocatedRefines, MovedIsCorrect};
 ghost use Rattle.run_end_laws.specs.States.{AllocatingKeepsState, AllocatingRefines, PreparedKeepsState, StepKeepsState, StepRefines};
 
 /// But for registers, the steps of an allocation are those of a run.
@@ -49,4 +49,9 @@ pub fn refines_end_law()
 /// and it is valid.
 pub fn valid_end_law()
     ensures { AllocatedIsValid }
+{}
+
+/// So it is where slots go to others behind that.
+pub fn moved_end_law()
+    ensures { MovedIsCorrect }
 {}
