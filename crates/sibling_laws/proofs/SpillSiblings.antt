@@ -20,8 +20,9 @@ use Rattle.spiller.specs.Setting.{Spilling}
 use Rattle.spiller.specs.Slots.{Slots, given_numbers, original_of, own_slot, slot_among, slot_of, with_ranges}
 use Rattle.spiller.specs.Spilled.{all_changes, is_slot, names_slot, setting_of, slots_after, spilled, tinies, tinies_of}
 use Rattle.spill_laws.specs.Refined.{SlotApart}
+use Rattle.clear_laws.specs.Spills.{SpillPoints, WasLane}
 use Rattle.sibling_laws.specs.Siblings.{AreSiblingsApart, KnowsOriginals, SlotPoint}
-use Rattle.sibling_laws.specs.Spills.{SpillKeepsSiblings, SpillPoints, WasLane}
+use Rattle.sibling_laws.specs.Spills.{SpillKeepsSiblings}
 use Rattle.sibling_laws.proofs.Originals.{get-numbers, given-number, length-numbers, number-below, original-further, original-in, original-old, own-given, own-next, slot-either, slot-given, next-other}
 use Rattle.sibling_laws.proofs.SlotsApart.{next-nowhere}
 use Rattle.sibling_laws.proofs.SlotsNamed.{IsNamed, occupied-named}

@@ -1,4 +1,5 @@
--- A run with the originals of its ranges: each range stays apart from its slot.
+-- A run with the originals of its ranges: each range stays apart from its slot, where no reload of the target has an
+-- early-clobber definition.
 use Rattle.std.specs.Prelude.{◌≡◌, ◌+◌, ◌<◌, ℕ, length, List}
 use Rattle.target_base.specs.declared.types.Target.{Target}
 use Rattle.mir_func.specs.Value.{Function}
@@ -10,11 +11,11 @@ use Rattle.spill_laws.specs.Refined.{SlotApart}
 use Rattle.split_kit.specs.Split.{Split, greatest_label}
 use Rattle.split_laws.specs.Laws.{LabelsAgree}
 use Rattle.run_laws.specs.Form.{IsInRun}
+use Rattle.clear_laws.specs.Spills.{HasEarlyReload}
 use Rattle.ready_laws.specs.Frames.{AreFirst, HasNoSlots}
 use Rattle.ready_laws.specs.Runs.{IsReachedWith, IsSlotStep}
 use Rattle.sibling_laws.specs.Siblings.{AreSiblingsApart, KnowsOriginals}
 use Rattle.sibling_laws.specs.Splits.{with_parts}
-use Rattle.sibling_laws.specs.Spills.{SpillsKeepSlots}
 
 -- One step of a run: a range of the function is split by labels that agree on the ways between blocks, and its parts have its
 -- original; or a range of the function is spilled.
@@ -35,14 +36,14 @@ OriginalsStepIsSlotStep = (t : Target) (f g : Function) (s r : Slots) → IsOrig
 abbrev pub ReachedFromIsReachedWith : Type 0
 ReachedFromIsReachedWith = (t : Target) (f g : Function) (s r : Slots) → IsReachedFrom t f s g r → IsReachedWith t f s g r
 
--- Where spills keep points, steps keep siblings apart,
+-- Where no reload has an early-clobber definition, steps keep siblings apart,
 abbrev pub RunKeepsSiblings : Type 0
 RunKeepsSiblings =
-    (t : Target) (f g : Function) (s r : Slots) → SpillsKeepSlots t → IsInRun t f → KnowsOriginals f s → AreSiblingsApart t f s → IsReachedFrom t f s g r
+    (t : Target) (f g : Function) (s r : Slots) → (HasEarlyReload t → ⊥) → IsInRun t f → KnowsOriginals f s → AreSiblingsApart t f s → IsReachedFrom t f s g r
     → IsInRun t g × KnowsOriginals g r × AreSiblingsApart t g r
 
 -- so that in a run each range is apart from the slot that it has, or that it would get.
 abbrev pub RunKeepsSlotApart : Type 0
 RunKeepsSlotApart =
-    (t : Target) (f g : Function) (s r : Slots) (v : ℕ) → SpillsKeepSlots t → IsInRun t f → HasNoSlots t f → AreFirst f s → s.originals ≡ numbers 0 (length f.classes)
+    (t : Target) (f g : Function) (s r : Slots) (v : ℕ) → (HasEarlyReload t → ⊥) → IsInRun t f → HasNoSlots t f → AreFirst f s → s.originals ≡ numbers 0 (length f.classes)
     → IsReachedFrom t f s g r → v < length g.classes → SlotApart t g v (own_slot r v)

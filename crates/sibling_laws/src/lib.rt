@@ -34,7 +34,7 @@ pub fn split_law()
     ensures { SplitKeepsSiblings }
 {}
 
-/// and so does a spill, where it keeps points.
+/// and so does a spill, where lanes are live or occupied behind it at most as before.
 pub fn spill_law()
     ensures { SpillKeepsSiblings }
 {}
@@ -49,7 +49,7 @@ pub fn reached_law()
     ensures { ReachedFromIsReachedWith }
 {}
 
-/// Any number of steps keeps siblings apart, where spills keep points.
+/// Any number of steps keeps siblings apart, where no reload of the target has an early-clobber definition.
 pub fn run_law()
     ensures { RunKeepsSiblings }
 {}
