@@ -10,12 +10,13 @@ use Rattle.rewriter.specs.Physical.{Assignment, register_of}
 use Rattle.clear_laws.specs.Apart.{IsApart}
 use Rattle.clear_laws.proofs.Registers.{assign_apart, nothing_apart, unassign_apart}
 use Rattle.clear_laws.proofs.SplitPoints.{split_apart}
+use Rattle.clear_laws.proofs.SpillKept.{places_are_kept}
+use Rattle.clear_laws.proofs.SpillPoints.{spill_apart, spill_points_by}
 use Rattle.ready_laws.specs.Starts.{ListsStart}
 use Rattle.ready_laws.proofs.JoinStarts.{joined-keeps-listed}
 use Rattle.ready_laws.proofs.NoSlots.{joined-has-no-slots, lowered-has-no-slots}
 use Rattle.ready_laws.proofs.Runs.{joined-is-ready, step-keeps-ready}
 use Rattle.ready_laws.proofs.SplitStarts.{split-keeps-listed}
-use Rattle.sibling_laws.specs.Spills.{SpillsKeepSlots}
 use Rattle.sibling_laws.specs.Steps.{IsOriginalsStep}
 use Rattle.sibling_laws.specs.Steps as runs
 use Rattle.sibling_laws.proofs.FirstSiblings.{first-siblings-apart}
@@ -38,14 +39,10 @@ prepared-keeps-state t freqs source f js s rs p x none =
       start = joined-keeps-listed t freqs (lowered t source) f js run.lowered (form_has_plain_undefs t (lowered t source) run.instrs) x.joined (p.lowered_starts t source x.valid x.classes x.block);
     }
 
--- spills keep points where no reload has an early-clobber definition
-spills-keep-slots : (t : Target) → Premises t → SpillsKeepSlots t
-spills-keep-slots t p f g slots new v made low instrs undefs apart z = p.slots t f g slots new v made low instrs undefs apart p.reloads z
-
 -- a step of a run, of whatever kind, where registers and the start are kept
 edited : (t : Target) (f g : Function) (s r : Slots) (rs new : Assignment) → Premises t → KeepsState t f s rs → IsOriginalsStep t f s g r → IsApart t g new → ListsStart t g → KeepsState t g r new
 edited t f g s r rs new p k z registers begin =
-    let kept = run-keeps-siblings t f g s r (spills-keep-slots t p) k.ready.run k.known k.siblings (runs.step runs.start z) in
+    let kept = run-keeps-siblings t f g s r p.reloads k.ready.run k.known k.siblings (runs.step runs.start z) in
     record {
       ready = step-keeps-ready t f g s r k.ready (originals-step-is-slot-step t f g s r z);
       known = kept.1;
@@ -77,7 +74,7 @@ step-keeps-state t f g s r rs new p k (spills v made left z) =
     let run = k.ready.run in
     let apart = siblings-give-slot-apart t f s v k.siblings left.inside in
     edited t f g s r rs new p k (runs.spills v made left.inside z)
-    (p.registers t f g s r v made rs new run.lowered run.instrs run.undefs apart z left.none left.others k.registers)
+    (spill_apart (spill_points_by places_are_kept) t f g s r v made rs new run.lowered run.instrs run.undefs apart z left.none left.others k.registers)
     (p.starts t f g s r v made run.lowered run.instrs run.undefs apart z k.start)
 
 keeps : {t : Target} {f : Function} {s : Slots} {g : Function} {r : Slots} {rs : Assignment} → Premises t → ((ns : Assignment) → ((v : ℕ) → register_of ns v ≡ None) → KeepsState t f s ns) → IsAllocating t f s g r rs → KeepsState t g r rs

@@ -1,9 +1,6 @@
 -- What isn't proved yet of the parts of an allocation. The laws of a whole one have it as their premise.
-use Rattle.std.specs.Prelude.{◌≡◌, ◌<◌, ℕ, true, length, List, None, Some}
-use Rattle.target_base.specs.declared.types.Effect.TheVariants as effects
+use Rattle.std.specs.Prelude.{◌<◌, ℕ, length, List}
 use Rattle.target_base.specs.declared.types.Target.{Target}
-use Rattle.mir_func.specs.declared.func.Instr.{Instr}
-use Rattle.mir_func.specs.Binding.{effect_of, is_early_clobber, roles_of}
 use Rattle.mir_func.specs.Value.{Function}
 use Rattle.mir_meaning.specs.declared.Form.TheVariants as forms
 use Rattle.mir_meaning.specs.Valid.{IsValid}
@@ -15,27 +12,8 @@ use Rattle.spiller.specs.Spilled.{IsSpilled}
 use Rattle.spill_laws.specs.Laws.{AreLowered}
 use Rattle.spill_laws.specs.Named.{HasFixedUndefs}
 use Rattle.spill_laws.specs.Refined.{SlotApart}
-use Rattle.rewriter.specs.Physical.{Assignment, register_of}
-use Rattle.clear_laws.specs.Apart.{Extends, IsApart}
+use Rattle.clear_laws.specs.Spills.{HasEarlyReload}
 use Rattle.ready_laws.specs.Starts.{ListsStart}
-use Rattle.sibling_laws.specs.Spills.{SpillPoints}
-
--- a reload of the target has an early-clobber definition
-abbrev pub HasEarlyReload : Target → Type 0
-HasEarlyReload t = (i : Instr) × (effect_of t i ≡ Some effects.Reload) × (is_early_clobber (roles_of t i) ≡ true)
-
--- Behind a spill to a slot that is apart from the range, lanes are live or occupied at each point at most as at one point before it,
--- where no reload has an early-clobber definition.
-abbrev pub SpillKeepsSlots : Type 0
-SpillKeepsSlots =
-    (t : Target) (f g : Function) (slots new : Slots) (v : ℕ) (made : List (ℕ × ℕ)) → IsLowered t f → AreLowered t f → HasFixedUndefs t f → SlotApart t f v (own_slot slots v)
-    → (HasEarlyReload t → ⊥) → IsSpilled t f slots v g new made → SpillPoints t f v (own_slot slots v) g
-
--- Where the range has no register and the ranges that are made get none, there are no clashes then.
-abbrev pub SpillKeepsApart : Type 0
-SpillKeepsApart =
-    (t : Target) (f g : Function) (slots new : Slots) (v : ℕ) (made : List (ℕ × ℕ)) (rs after : Assignment) → IsLowered t f → AreLowered t f → HasFixedUndefs t f
-    → SlotApart t f v (own_slot slots v) → IsSpilled t f slots v g new made → register_of rs v ≡ None → Extends f rs after → IsApart t f rs → IsApart t g after
 
 -- Where no range was live at the start, and the first block listed the units that were, that is so then.
 abbrev pub SpillKeepsListed : Type 0
@@ -48,10 +26,8 @@ abbrev pub LoweredIsListed : Type 0
 LoweredIsListed = (t : Target) (f : Function) → IsValid t forms.Source f → AreClasses t f → 0 < length f.blocks → ListsStart t (lowered t f)
 
 -- The premises of the laws of a whole allocation: no reload of the target has an early-clobber definition; and what isn't proved
--- yet of spills, and of the start of a lowered source. Each of the latter goes once its law stands.
+-- yet of what is live at the start, behind spills and behind lowering. Each of the latter goes once its law stands.
 pub record Premises (t : Target) : Type 0 where
   pub reloads : HasEarlyReload t → ⊥
-  pub slots : SpillKeepsSlots
-  pub registers : SpillKeepsApart
   pub starts : SpillKeepsListed
   pub lowered_starts : LoweredIsListed
