@@ -44,3 +44,4 @@ pub mod PointsWide
 pub mod NeedlessKept
 pub mod EffectsKept
 pub mod SpillKept
+pub mod Starts

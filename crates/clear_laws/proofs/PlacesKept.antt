@@ -295,8 +295,12 @@ module _ (t : Target) (f g : Function) (v slot : ℕ) (wide : ℕ → Type 0) (s
               inr (standing-in all z.pre z.block z.after z.blocks z.inside.front z.inside.instr z.inside.back z.inside.whole id
               (ap (λ n. from_instr t g n g.blocks) (sym z.inside.named) ∙ code-here t g whole z.pre z.block z.after z.blocks z.inside.front z.inside.instr z.inside.back z.inside.whole))
 
+      -- what is live at the start of a block may be
+      pub start-may : (n : ℕ) (l : Lane) → OccupiedAt t g (Start n) l → MayBe (found n C) l
+      start-may n l h = bounded R C D MayBe starts h [] (found n D) (found n C) refl (starts n)
+
       at-start : (n : ℕ) (l : Lane) → OccupiedAt t g (Start n) l → WasSo (OccupiedAt t f (Start n)) l
-      at-start n l h = may-so (found n C) l (bounded R C D MayBe starts h [] (found n D) (found n C) refl (starts n))
+      at-start n l h = may-so (found n C) l (start-may n l h)
 
       at-entry : (id : ℕ) (z : Standing id) → Told (OccupiedAt t g (Entry id))
       at-entry id z =

@@ -4,14 +4,14 @@ use Rattle.std.proofs.lemmas.List.{length-map}
 use Rattle.std.specs.List.{sum_by, zip}
 use Rattle.target_base.specs.declared.types.ClassId.{ClassId}
 use Rattle.target_base.specs.declared.types.Target.{Target}
-use Rattle.meaning.specs.Code.{Code}
+use Rattle.meaning.specs.Code.{Code, found}
 use Rattle.meaning.specs.Live.{Among as Member, here as first, there as later}
 use Rattle.meaning.specs.declared.types.Lane.{Lane}
 use Rattle.mir_func.specs.declared.func.Instr.{Instr}
 use Rattle.mir_func.specs.declared.func.Block.{Block}
 use Rattle.mir_func.specs.Value.{Function}
 use Rattle.mir_func.specs.Binding.{class_of}
-use Rattle.mir_meaning.specs.Points.{OccupiedAt, Point, has_no_phis}
+use Rattle.mir_meaning.specs.Points.{OccupiedAt, Point, Start, has_no_phis}
 use Rattle.lowering_laws.specs.Shapes.{IsLowered}
 use Rattle.spiller.specs.Rematerialised.{places_of}
 use Rattle.spiller.specs.Setting.{Spilling}
@@ -21,8 +21,8 @@ use Rattle.spill_laws.proofs.Outcomes.{instrs-of, places-whole}
 use Rattle.spill_laws.proofs.Ranges.{Has, before, behind}
 use Rattle.clear_laws.specs.Spills.{HasEarlyReload}
 use Rattle.clear_laws.proofs.Places.{code-behind}
-use Rattle.clear_laws.proofs.PlaceBounds.{GoesOn, Was}
-use Rattle.clear_laws.proofs.PlacesKept.{Blocks, C, D, PlaceKept, Places, R, block, goes, no-blocks, no-more, places-keep}
+use Rattle.clear_laws.proofs.PlaceBounds.{GoesOn, May, Was}
+use Rattle.clear_laws.proofs.PlacesKept.{Blocks, C, D, PlaceKept, Places, R, block, goes, no-blocks, no-more, places-keep, start-may}
 
 has-before : (g : Function) (c : ℕ) (xs ys : List (Option ClassId)) → Has g c (xs ++ ys) → Has g c xs
 has-before g c xs ys h j k e = h j k (before xs ys j k e)
@@ -100,3 +100,9 @@ module _ (s : Spilling) (wide : ℕ → Type 0) (stored : Code → ℕ → Type 
     pub spilled-keeps : GoesOn (R t f g s.range s.slot wide stored) (C t f g s.range s.slot wide stored) (D t f g s.range s.slot wide stored) (length f.classes) s.range s.slot wide stored → IsLowered t f → IsLowered t g
         → (p : Point) → (q : Point) × ((l : Lane) → OccupiedAt t g p l → Was (length f.classes) s.range s.slot (HasEarlyReload t) (OccupiedAt t f q) l)
     spilled-keeps on low low' = places-keep t f g s.range s.slot wide stored on (bare t f low) (bare t g low') low'.function all-go
+
+    -- What is live at the start of a block of g may be there in f.
+    pub spilled-starts : GoesOn (R t f g s.range s.slot wide stored) (C t f g s.range s.slot wide stored) (D t f g s.range s.slot wide stored) (length f.classes) s.range s.slot wide stored → IsLowered t f → IsLowered t g
+        → (n : ℕ) (l : Lane) → OccupiedAt t g (Start n) l
+        → May (R t f g s.range s.slot wide stored) (C t f g s.range s.slot wide stored) (D t f g s.range s.slot wide stored) (length f.classes) s.range s.slot wide stored (found n (C t f g s.range s.slot wide stored)) l
+    spilled-starts on low low' = start-may t f g s.range s.slot wide stored on (bare t f low) (bare t g low') low'.function all-go

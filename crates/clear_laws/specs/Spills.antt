@@ -7,7 +7,7 @@ use Rattle.meaning.specs.declared.types.Lane.TheVariants.{SlotLane, UnitLane, Vi
 use Rattle.mir_func.specs.declared.func.Instr.{Instr}
 use Rattle.mir_func.specs.Binding.{effect_of, is_early_clobber, roles_of}
 use Rattle.mir_func.specs.Value.{Function}
-use Rattle.mir_meaning.specs.Points.{OccupiedAt, Point}
+use Rattle.mir_meaning.specs.Points.{LiveAt, OccupiedAt, Point, Start}
 use Rattle.lowering_laws.specs.Shapes.{IsLowered}
 use Rattle.rewriter.specs.Physical.{Assignment, register_of}
 use Rattle.spiller.specs.Slots.{Slots, own_slot}
@@ -43,6 +43,17 @@ abbrev pub SpillKeepsSlots : Type 0
 SpillKeepsSlots =
     (t : Target) (f g : Function) (slots new : Slots) (v : ℕ) (made : List (ℕ × ℕ)) → IsLowered t f → AreLowered t f → HasFixedUndefs t f → SlotApart t f v (own_slot slots v)
     → (HasEarlyReload t → ⊥) → IsSpilled t f slots v g new made → SpillPoints t f v (own_slot slots v) g
+
+-- at the start of each block units, and lanes of ranges, are live in g at most as they are in f
+pub record KeepsStarts (t : Target) (f g : Function) : Type 0 where
+  pub units : (n u : ℕ) → LiveAt t g (Start n) (UnitLane u) → LiveAt t f (Start n) (UnitLane u)
+  pub ranges : (n w k : ℕ) → LiveAt t g (Start n) (VirtualLane w k) → LiveAt t f (Start n) (VirtualLane w k)
+
+-- A spill to a slot that is apart from the range keeps starts so.
+abbrev pub SpillKeepsStarts : Type 0
+SpillKeepsStarts =
+    (t : Target) (f g : Function) (slots new : Slots) (v : ℕ) (made : List (ℕ × ℕ)) → IsLowered t f → AreLowered t f → HasFixedUndefs t f → SlotApart t f v (own_slot slots v)
+    → IsSpilled t f slots v g new made → KeepsStarts t f g
 
 -- Where the range has no register and the ranges that are made get none, there are no clashes then.
 abbrev pub SpillKeepsApart : Type 0

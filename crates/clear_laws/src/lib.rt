@@ -6,7 +6,7 @@
 
 ghost use Rattle.clear_laws.specs.Apart.{AssignKeepsApart, EndIsClear, NothingIsApart, PointsKeepApart, SetChangesOne, UnassignKeepsApart};
 ghost use Rattle.clear_laws.specs.Edits.{SplitKeepsApart, SplitKeepsPoints};
-ghost use Rattle.clear_laws.specs.Spills.{SpillKeepsApart, SpillKeepsPoints, SpillKeepsSlots};
+ghost use Rattle.clear_laws.specs.Spills.{SpillKeepsApart, SpillKeepsPoints, SpillKeepsSlots, SpillKeepsStarts};
 
 /// Where no range has a register there are no clashes.
 pub fn nothing_law()
@@ -51,6 +51,11 @@ pub fn spill_points_law()
 /// and lanes of slots neither, but for those that take the range's place, where no reload has an early-clobber definition.
 pub fn spill_slots_law()
     ensures { SpillKeepsSlots }
+{}
+
+/// At the start of each block it makes no unit live, and no range, those that are made included.
+pub fn spill_starts_law()
+    ensures { SpillKeepsStarts }
 {}
 
 /// So it leaves no clashes, where the range has no register and the ranges that are made get none.
