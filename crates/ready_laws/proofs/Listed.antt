@@ -16,7 +16,10 @@ use Rattle.spill_laws.proofs.InTurn.{form_has_plain_undefs}
 use Rattle.run_laws.specs.Form.{IsInRun}
 use Rattle.run_laws.specs.Runs as plain
 use Rattle.run_laws.proofs.Runs.{joined_is_in_run, lowered_is_in_run, step_is_in_run}
-use Rattle.ready_laws.specs.Listed.{ApartIsReached, ApartRunIsReady, IsReachedApart, KeepsStarts, RunIsListed, SpillKeepsListed, SpillKeepsStarts, SpillsApart}
+use Rattle.clear_laws.specs.Spills.{KeepsStarts}
+use Rattle.clear_laws.proofs.SpillKept.{places_are_kept}
+use Rattle.clear_laws.proofs.Starts.{spill_starts_by}
+use Rattle.ready_laws.specs.Listed.{ApartIsReached, ApartRunIsReady, IsReachedApart, RunIsListed, SpillKeepsListed, SpillsApart}
 use Rattle.ready_laws.specs.Listed as apart
 use Rattle.ready_laws.specs.Runs.{IsReachedWith, IsSlotStep, spills, splits}
 use Rattle.ready_laws.specs.Runs as runs
@@ -65,28 +68,28 @@ pub apart-is-reached : ApartIsReached
 apart-is-reached t f g s r on = apart-with on
 
 -- one step, from a function of a run
-step-listed : SpillKeepsStarts → {t : Target} {f : Function} {s : Slots} {g : Function} {r : Slots} → IsInRun t f → (z : IsSlotStep t f s g r) → SpillsApart z → ListsStart t f → ListsStart t g
-step-listed spill {t = t} {f = f} {g = g} run (splits v ms meet z given taken) a l = split-keeps-listed t f g v ms run.lowered meet z l
-step-listed spill {t = t} {f = f} {s = s} {g = g} {r = r} run (spills v made z) a l =
-    spill-keeps-listed t f g s r v made z (spill t f g s r v made run.lowered run.instrs run.undefs a z) l
+step-listed : {t : Target} {f : Function} {s : Slots} {g : Function} {r : Slots} → IsInRun t f → (z : IsSlotStep t f s g r) → SpillsApart z → ListsStart t f → ListsStart t g
+step-listed {t = t} {f = f} {g = g} run (splits v ms meet z given taken) a l = split-keeps-listed t f g v ms run.lowered meet z l
+step-listed {t = t} {f = f} {s = s} {g = g} {r = r} run (spills v made z) a l =
+    spill-keeps-listed t f g s r v made z (spill_starts_by places_are_kept t f g s r v made run.lowered run.instrs run.undefs a z) l
 
 plain-step : {t : Target} {f : Function} {s : Slots} {g : Function} {r : Slots} → IsSlotStep t f s g r → plain.IsStep t f g
 plain-step (splits v ms meet z given taken) = plain.splits v ms meet z
 plain-step {s = s} {r = r} (spills v made z) = plain.spills s r v made z
 
-steps-listed : SpillKeepsStarts → {t : Target} {f : Function} {s : Slots} {g : Function} {r : Slots} → IsInRun t f → ListsStart t f → IsReachedApart t f s g r → IsInRun t g × ListsStart t g
-steps-listed spill run l apart.start = (run, l)
-steps-listed spill {t = t} run l (apart.step {g = g} {h = h} on z a) =
-    let k = steps-listed spill run l on in
-    (step_is_in_run t g h k.0 (plain-step z), step-listed spill k.0 z a k.1)
+steps-listed : {t : Target} {f : Function} {s : Slots} {g : Function} {r : Slots} → IsInRun t f → ListsStart t f → IsReachedApart t f s g r → IsInRun t g × ListsStart t g
+steps-listed run l apart.start = (run, l)
+steps-listed {t = t} run l (apart.step {g = g} {h = h} on z a) =
+    let k = steps-listed run l on in
+    (step_is_in_run t g h k.0 (plain-step z), step-listed k.0 z a k.1)
 
 pub run-is-listed : RunIsListed
-run-is-listed phis spill t freqs f g h js s r valid classes some z on =
+run-is-listed phis t freqs f g h js s r valid classes some z on =
     let run = lowered_is_in_run t f valid classes some in
-    (steps-listed spill (joined_is_in_run t freqs (lowered t f) g js run z)
+    (steps-listed (joined_is_in_run t freqs (lowered t f) g js run z)
     (joined-keeps-listed t freqs (lowered t f) g js run.lowered (form_has_plain_undefs t (lowered t f) run.instrs) z (lowered-is-listed phis t f valid classes)) on).1
 
 pub apart-run-is-ready : ApartRunIsReady
-apart-run-is-ready phis spill live freqs f g js s r rs slots valid classes some z first on same clear computed =
+apart-run-is-ready phis live freqs f g js s r rs slots valid classes some z first on same clear computed =
     computed-run-is-ready live freqs f g js s r rs slots valid classes some z first (apart-with on) same clear computed
-    (run-is-listed phis spill live.target freqs f g live.func js s r valid classes some z on)
+    (run-is-listed phis live.target freqs f g live.func js s r valid classes some z on)

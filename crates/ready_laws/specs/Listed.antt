@@ -1,42 +1,27 @@
--- What is live where a function begins, along a run with spills. Of phi elimination and of spills it is a premise here.
+-- What is live where a function begins, along a run with spills. Of phi elimination it is a premise here.
 use Rattle.std.specs.Prelude.{◌≡◌, ◌<◌, ℕ, length, map, List}
 use Rattle.target_base.specs.declared.types.ClassId.{ClassId}
 use Rattle.target_base.specs.declared.types.Target.{Target}
-use Rattle.meaning.specs.declared.types.Lane.TheVariants.{UnitLane, VirtualLane}
 use Rattle.mir_func.specs.Value.{Function}
 use Rattle.mir_meaning.specs.declared.Form.TheVariants as forms
-use Rattle.mir_meaning.specs.Points.{LiveAt, Start}
 use Rattle.mir_meaning.specs.Valid.{IsValid}
 use Rattle.live_lanes.specs.declared.live.LiveFunc.{LiveFunc}
 use Rattle.live_lanes.specs.Doing.{IsComputed}
 use Rattle.live_laws.specs.Effects.Shaped.{AreClasses}
 use Rattle.two_address.specs.Lowered.{lowered}
 use Rattle.live_edits.specs.declared.fold.Join.{Join}
-use Rattle.lowering_laws.specs.Shapes.{IsLowered}
 use Rattle.join_laws.specs.Joined.{Joined}
 use Rattle.spiller.specs.Slots.{Slots, own_slot}
 use Rattle.spiller.specs.Spilled.{IsSpilled}
-use Rattle.spill_laws.specs.Laws.{AreLowered}
-use Rattle.spill_laws.specs.Named.{HasFixedUndefs}
 use Rattle.spill_laws.specs.Refined.{SlotApart}
 use Rattle.rewriter.specs.Physical.{Assignment}
 use Rattle.rewrite_laws.specs.Laws.{IsClear}
+use Rattle.clear_laws.specs.Spills.{KeepsStarts}
 use Rattle.valid_laws.specs.Valid.{IsReady}
 use Rattle.ready_laws.specs.Frames.{AreFirst, slot_numbers}
 use Rattle.ready_laws.specs.LoweredStarts.{PhisKeepStart}
 use Rattle.ready_laws.specs.Runs.{IsReachedWith, IsSlotStep, spills, splits}
 use Rattle.ready_laws.specs.Starts.{ListsStart}
-
--- at the start of each block units, and lanes of ranges, are live in g at most as they are in f
-pub record KeepsStarts (t : Target) (f g : Function) : Type 0 where
-  pub units : (n u : ℕ) → LiveAt t g (Start n) (UnitLane u) → LiveAt t f (Start n) (UnitLane u)
-  pub ranges : (n w k : ℕ) → LiveAt t g (Start n) (VirtualLane w k) → LiveAt t f (Start n) (VirtualLane w k)
-
--- that a spill to a slot that is apart from the range keeps starts so; not proved yet
-abbrev pub SpillKeepsStarts : Type 0
-SpillKeepsStarts =
-    (t : Target) (f g : Function) (slots new : Slots) (v : ℕ) (made : List (ℕ × ℕ)) → IsLowered t f → AreLowered t f → HasFixedUndefs t f → SlotApart t f v (own_slot slots v)
-    → IsSpilled t f slots v g new made → KeepsStarts t f g
 
 -- where a spill keeps starts so, no range is live at the start then, and the first block lists the units that are
 abbrev pub SpillKeepsListed : Type 0
@@ -58,18 +43,16 @@ abbrev pub ApartIsReached : Type 0
 ApartIsReached = (t : Target) (f g : Function) (s r : Slots) → IsReachedApart t f s g r → IsReachedWith t f s g r
 
 -- So at the start of the function at the end of a run no range is live, and its first block lists the units that are, where phi
--- elimination and spills make no more live there.
+-- elimination makes no more live there.
 abbrev pub RunIsListed : Type 0
 RunIsListed =
-    PhisKeepStart → SpillKeepsStarts
-    → (t : Target) (freqs : List ℕ) (f g h : Function) (js : List Join) (s r : Slots) → IsValid t forms.Source f → AreClasses t f → 0 < length f.blocks
+    PhisKeepStart → (t : Target) (freqs : List ℕ) (f g h : Function) (js : List Join) (s r : Slots) → IsValid t forms.Source f → AreClasses t f → 0 < length f.blocks
     → Joined t freqs (lowered t f) js g → IsReachedApart t g s h r → ListsStart t h
 
 -- Then the function of a computed table at the end of a run is ready to be rewritten.
 abbrev pub ApartRunIsReady : Type 0
 ApartRunIsReady =
-    PhisKeepStart → SpillKeepsStarts
-    → (live : LiveFunc) (freqs : List ℕ) (f g : Function) (js : List Join) (s r : Slots) (rs : Assignment) (slots : List (ℕ × ClassId))
+    PhisKeepStart → (live : LiveFunc) (freqs : List ℕ) (f g : Function) (js : List Join) (s r : Slots) (rs : Assignment) (slots : List (ℕ × ClassId))
     → IsValid live.target forms.Source f → AreClasses live.target f → 0 < length f.blocks → Joined live.target freqs (lowered live.target f) js g → AreFirst g s
     → IsReachedApart live.target g s live.func r → map (λ p. p.0) slots ≡ slot_numbers r → IsClear live.target live.func rs
     → IsComputed live.target live.func live.table → IsReady live.target live.func rs slots

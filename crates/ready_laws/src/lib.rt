@@ -4,8 +4,8 @@
 //! of splits and spills, the function is ready to be rewritten, for any assignment without clashes, where no range is live at the
 //! start of its first block, which lists the units that are. `run_law` asks the rules of a source of the start instead. What a run
 //! keeps is said of its beginning by `joined_law` and of a step by `step_law`; the laws before these are of blocks, of frame
-//! objects and of the start. `apart_run_law` needs nothing of the start: it rests on two statements that are not proved yet, of phi
-//! elimination and of spills.
+//! objects and of the start. `apart_run_law` needs nothing of the start: it rests on one statement that is not proved yet, of phi
+//! elimination.
 #![tactic(auto)]
 
 ghost use Rattle.ready_laws.specs.Frames.{FirstHasFrames, FramesFit, JoinedHasNoSlots, LoweredHasNoSlots, SpillKeepsFrames, SplitKeepsFrames};

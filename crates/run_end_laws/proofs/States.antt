@@ -12,8 +12,11 @@ use Rattle.clear_laws.proofs.Registers.{assign_apart, nothing_apart, unassign_ap
 use Rattle.clear_laws.proofs.SplitPoints.{split_apart}
 use Rattle.clear_laws.proofs.SpillKept.{places_are_kept}
 use Rattle.clear_laws.proofs.SpillPoints.{spill_apart, spill_points_by}
+use Rattle.clear_laws.proofs.Starts.{spill_starts_by}
 use Rattle.ready_laws.specs.Starts.{ListsStart}
 use Rattle.ready_laws.proofs.JoinStarts.{joined-keeps-listed}
+use Rattle.ready_laws.proofs.Listed.{spill-keeps-listed}
+use Rattle.ready_laws.proofs.LoweredStarts.{lowered-is-listed}
 use Rattle.ready_laws.proofs.NoSlots.{joined-has-no-slots, lowered-has-no-slots}
 use Rattle.ready_laws.proofs.Runs.{joined-is-ready, step-keeps-ready}
 use Rattle.ready_laws.proofs.SplitStarts.{split-keeps-listed}
@@ -36,7 +39,7 @@ prepared-keeps-state t freqs source f js s rs p x none =
       known = begin.0;
       siblings = begin.1;
       registers = nothing_apart t f rs none;
-      start = joined-keeps-listed t freqs (lowered t source) f js run.lowered (form_has_plain_undefs t (lowered t source) run.instrs) x.joined (p.lowered_starts t source x.valid x.classes x.block);
+      start = joined-keeps-listed t freqs (lowered t source) f js run.lowered (form_has_plain_undefs t (lowered t source) run.instrs) x.joined (lowered-is-listed p.phis t source x.valid x.classes);
     }
 
 -- a step of a run, of whatever kind, where registers and the start are kept
@@ -75,7 +78,7 @@ step-keeps-state t f g s r rs new p k (spills v made left z) =
     let apart = siblings-give-slot-apart t f s v k.siblings left.inside in
     edited t f g s r rs new p k (runs.spills v made left.inside z)
     (spill_apart (spill_points_by places_are_kept) t f g s r v made rs new run.lowered run.instrs run.undefs apart z left.none left.others k.registers)
-    (p.starts t f g s r v made run.lowered run.instrs run.undefs apart z k.start)
+    (spill-keeps-listed t f g s r v made z (spill_starts_by places_are_kept t f g s r v made run.lowered run.instrs run.undefs apart z) k.start)
 
 keeps : {t : Target} {f : Function} {s : Slots} {g : Function} {r : Slots} {rs : Assignment} → Premises t → ((ns : Assignment) → ((v : ℕ) → register_of ns v ≡ None) → KeepsState t f s ns) → IsAllocating t f s g r rs → KeepsState t g r rs
 keeps {rs = rs} p begin (start none) = begin rs none
