@@ -6,6 +6,12 @@ pub mod Lived
 pub mod Given
 pub mod Calm
 pub mod TiedStarts
+pub mod BesideLanes
+pub mod SourceFacts
+pub mod RangesMoved
+pub mod PhiBeside
+pub mod PointLanes
+pub mod PhiStarts
 pub mod LoweredStarts
 pub mod SplitStarts
 pub mod JoinStarts

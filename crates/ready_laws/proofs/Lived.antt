@@ -25,23 +25,23 @@ use Rattle.laws.proofs.Flow.{flow, kept_along, kept_next, lane-inj, none_among, 
 use Rattle.lowering_laws.proofs.Alike.{Equal}
 use Rattle.lowering_laws.proofs.Olds.{is_old, old_source}
 
-head-of : (i j : Item) (p q : Code) → ◌≡◌ {A = Code} (i ∷ p) (j ∷ q) → i ≡ j
+pub head-of : (i j : Item) (p q : Code) → ◌≡◌ {A = Code} (i ∷ p) (j ∷ q) → i ≡ j
 head-of i j p q e = cc
 
-rest-of : (i j : Item) (p q : Code) → ◌≡◌ {A = Code} (i ∷ p) (j ∷ q) → p ≡ q
+pub rest-of : (i j : Item) (p q : Code) → ◌≡◌ {A = Code} (i ∷ p) (j ∷ q) → p ≡ q
 rest-of i j p q e = cc
 
 -- a fill that settles to a lane moves it
-moves-lane : (f : Fill) (k : Lane) → settled f ≡ FromLane k → f ≡ Moved (FromLane k)
+pub moves-lane : (f : Fill) (k : Lane) → settled f ≡ FromLane k → f ≡ Moved (FromLane k)
 moves-lane (Moved s) k e = ap Moved e
 moves-lane (Computed i) k e = absurd (cc)
 
-way-of : (exits : List EdgePair) (e : Edge) → Among e (second_edges exits) → (w : EdgePair) × Among w exits × (second_edge w ≡ e)
+pub way-of : (exits : List EdgePair) (e : Edge) → Among e (second_edges exits) → (w : EdgePair) × Among w exits × (second_edge w ≡ e)
 way-of [] e x = absurd (none_among e x)
 way-of (w ∷ exits) e here = (w, here, refl)
 way-of (w ∷ exits) e (there x) = let z = way-of exits e x in (z.0, there z.1, z.2)
 
-first-way : (exits : List EdgePair) (w : EdgePair) → Among w exits → Among (first_edge w) (first_edges exits)
+pub first-way : (exits : List EdgePair) (w : EdgePair) → Among w exits → Among (first_edge w) (first_edges exits)
 first-way [] w x = absurd (none_among w x)
 first-way (v ∷ exits) w here = here
 first-way (v ∷ exits) w (there x) = there (first-way exits w x)
@@ -68,7 +68,7 @@ is-read S (r ∷ rs) [] ts l h x y = absurd h
 is-read S (r ∷ rs) (q ∷ qs) ts l h here y = let z = read-among S r q l h.0 y in record { operand = r; source = z.0; there' = here; among = z.1; holds = z.2 }
 is-read S (r ∷ rs) (q ∷ qs) ts l h (there x) y = let z = is-read S rs qs ts l h.1 x y in record { operand = z.operand; source = z.source; there' = there z.there'; among = z.among; holds = z.holds }
 
-alike-back : (S : Rel) (x : Fill) (l : Lane) → AlikeFill S x (Moved (FromLane l)) → S (settled x) (FromLane l)
+pub alike-back : (S : Rel) (x : Fill) (l : Lane) → AlikeFill S x (Moved (FromLane l)) → S (settled x) (FromLane l)
 alike-back S (Moved s) l h = h
 alike-back S (Computed i) l h = absurd h
 

@@ -59,7 +59,7 @@ plain-list : (t : Target) (is : List Instr) → list_all (λ i. not (does is_phi
 plain-list t [] e = tt
 plain-list t (i ∷ is) e = (not-true (does is_phi t i) (first_of_both (not (does is_phi t i)) (list_all (λ i. not (does is_phi t i)) is) e), plain-list t is (second_of_both (not (does is_phi t i)) (list_all (λ i. not (does is_phi t i)) is) e))
 
-plain-of : (t : Target) (bs : List Block) (m : ℕ) → has_no_phis t bs ≡ true → NoPhis t (instrs_of bs m)
+pub plain-of : (t : Target) (bs : List Block) (m : ℕ) → has_no_phis t bs ≡ true → NoPhis t (instrs_of bs m)
 plain-of t [] m e = tt
 plain-of t (b ∷ bs) m e = go (nat_eq b.number m) (plain-of t bs m (second_of_both (list_all (λ i. not (does is_phi t i)) b.instrs) (has_no_phis t bs) e))
   where
@@ -80,7 +80,7 @@ no-phi-either (Some x) e = go (is_phi x) e
     go true e = absurd (cc)
     go false e = refl
 
-reserved-old : (t : Target) (n : ℕ) (a : Lane) → is_reserved t a ≡ true → is_old n a ≡ true
+pub reserved-old : (t : Target) (n : ℕ) (a : Lane) → is_reserved t a ≡ true → is_old n a ≡ true
 reserved-old t n (VirtualLane v k) e = absurd (cc)
 reserved-old t n (UnitLane u) e = refl
 reserved-old t n (SlotLane s k w) e = refl

@@ -10,7 +10,7 @@
 
 ghost use Rattle.ready_laws.specs.Frames.{FirstHasFrames, FramesFit, JoinedHasNoSlots, LoweredHasNoSlots, SpillKeepsFrames, SplitKeepsFrames};
 ghost use Rattle.ready_laws.specs.Listed.{ApartIsReached, ApartRunIsReady, RunIsListed, SpillKeepsListed};
-ghost use Rattle.ready_laws.specs.LoweredStarts.{LoweredIsListed, TiesKeepLive};
+ghost use Rattle.ready_laws.specs.LoweredStarts.{LoweredIsListed, PhisKeepStart, TiesKeepLive};
 ghost use Rattle.ready_laws.specs.Runs.{ComputedRunIsReady, JoinedIsReady, ReachedWithIsReached, RunIsReady, RunWithoutSpillsIsListed, SplitsKeepStart, StepKeepsReady};
 ghost use Rattle.ready_laws.specs.Starts.{JoinedKeepsListed, ListedHasStart, SplitKeepsListed, StartIsListed, WithinKeepsListed};
 ghost use Rattle.ready_laws.specs.Steps.{SpillKeepsBlocks, SplitKeepsBlocks, SplitKeepsStart};
@@ -123,6 +123,11 @@ pub fn run_listed_law()
 /// What is live at the start of a block in two-address form was live there.
 pub fn ties_live_law()
     ensures { TiesKeepLive }
+{}
+
+/// What is live where a valid source begins without its phis was live there.
+pub fn phis_live_law()
+    ensures { PhisKeepStart }
 {}
 
 /// So at the start of a valid source, lowered, no range is live, and its first block lists the units that are, where phi elimination
