@@ -84,12 +84,12 @@ steps-listed {t = t} run l (apart.step {g = g} {h = h} on z a) =
     (step_is_in_run t g h k.0 (plain-step z), step-listed k.0 z a k.1)
 
 pub run-is-listed : RunIsListed
-run-is-listed phis t freqs f g h js s r valid classes some z on =
+run-is-listed t freqs f g h js s r valid classes some z on =
     let run = lowered_is_in_run t f valid classes some in
     (steps-listed (joined_is_in_run t freqs (lowered t f) g js run z)
-    (joined-keeps-listed t freqs (lowered t f) g js run.lowered (form_has_plain_undefs t (lowered t f) run.instrs) z (lowered-is-listed phis t f valid classes)) on).1
+    (joined-keeps-listed t freqs (lowered t f) g js run.lowered (form_has_plain_undefs t (lowered t f) run.instrs) z (lowered-is-listed t f valid classes)) on).1
 
 pub apart-run-is-ready : ApartRunIsReady
-apart-run-is-ready phis live freqs f g js s r rs slots valid classes some z first on same clear computed =
+apart-run-is-ready live freqs f g js s r rs slots valid classes some z first on same clear computed =
     computed-run-is-ready live freqs f g js s r rs slots valid classes some z first (apart-with on) same clear computed
-    (run-is-listed phis live.target freqs f g live.func js s r valid classes some z on)
+    (run-is-listed live.target freqs f g live.func js s r valid classes some z on)

@@ -25,6 +25,7 @@ use Rattle.lowering_laws.proofs.Ruled.{all-rules, each-rules}
 use Rattle.valid_laws.specs.Rules.{HasStart}
 use Rattle.ready_laws.specs.LoweredStarts.{LoweredIsListed}
 use Rattle.ready_laws.specs.Starts.{BeginsWithin}
+use Rattle.ready_laws.proofs.PhiStarts.{phis-keep-start}
 use Rattle.ready_laws.proofs.Starts.{start-is-listed, within-keeps-listed}
 use Rattle.ready_laws.proofs.TiedStarts.{no-phi-either, tied-live, weaker}
 
@@ -71,10 +72,10 @@ valid-has-start : (t : Target) (f : Function) → IsValid t forms.Source f → H
 valid-has-start t f valid = record { starts = valid.starts; entry = λ b e. valid.liveins 0 b (ap (λ bs. slice_get bs 0) (take-all f.blocks) ∙ e) }
 
 pub lowered-is-listed : LoweredIsListed
-lowered-is-listed phis t f valid classes = within-keeps-listed t f (lowered t f) begins (start-is-listed t f (valid-has-start t f valid))
+lowered-is-listed t f valid classes = within-keeps-listed t f (lowered t f) begins (start-is-listed t f (valid-has-start t f valid))
   where
     begins : (c : Block) → slice_get (lowered t f).blocks 0 ≡ Some c → (b : Block) × BeginsWithin t f (lowered t f) b c
     begins c e =
         let z = lowered-began t f c e in
-        let was = λ (l : Lane) (h : LiveAt t (lowered t f) (Start c.number) l). phis t f valid z.0 z.1 l (lowered-live t f valid classes z.0.number l (subst (λ n. LiveAt t (lowered t f) (Start n) l) z.2 h)) in
+        let was = λ (l : Lane) (h : LiveAt t (lowered t f) (Start c.number) l). phis-keep-start t f valid z.0 z.1 l (lowered-live t f valid classes z.0.number l (subst (λ n. LiveAt t (lowered t f) (Start n) l) z.2 h)) in
         (z.0, record { there = z.1; number = z.2; liveins = z.3; units = λ u h. was (UnitLane u) h; ranges = λ w k h. (w, k, was (VirtualLane w k) h) })

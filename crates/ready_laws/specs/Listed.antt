@@ -1,4 +1,4 @@
--- What is live where a function begins, along a run with spills. Of phi elimination it is a premise here.
+-- What is live where a function begins, along a run with spills.
 use Rattle.std.specs.Prelude.{◌≡◌, ◌<◌, ℕ, length, map, List}
 use Rattle.target_base.specs.declared.types.ClassId.{ClassId}
 use Rattle.target_base.specs.declared.types.Target.{Target}
@@ -19,7 +19,6 @@ use Rattle.rewrite_laws.specs.Laws.{IsClear}
 use Rattle.clear_laws.specs.Spills.{KeepsStarts}
 use Rattle.valid_laws.specs.Valid.{IsReady}
 use Rattle.ready_laws.specs.Frames.{AreFirst, slot_numbers}
-use Rattle.ready_laws.specs.LoweredStarts.{PhisKeepStart}
 use Rattle.ready_laws.specs.Runs.{IsReachedWith, IsSlotStep, spills, splits}
 use Rattle.ready_laws.specs.Starts.{ListsStart}
 
@@ -42,17 +41,16 @@ pub data IsReachedApart (t : Target) (f : Function) (s : Slots) : Function → S
 abbrev pub ApartIsReached : Type 0
 ApartIsReached = (t : Target) (f g : Function) (s r : Slots) → IsReachedApart t f s g r → IsReachedWith t f s g r
 
--- So at the start of the function at the end of a run no range is live, and its first block lists the units that are, where phi
--- elimination makes no more live there.
+-- So at the start of the function at the end of a run no range is live, and its first block lists the units that are.
 abbrev pub RunIsListed : Type 0
 RunIsListed =
-    PhisKeepStart → (t : Target) (freqs : List ℕ) (f g h : Function) (js : List Join) (s r : Slots) → IsValid t forms.Source f → AreClasses t f → 0 < length f.blocks
+    (t : Target) (freqs : List ℕ) (f g h : Function) (js : List Join) (s r : Slots) → IsValid t forms.Source f → AreClasses t f → 0 < length f.blocks
     → Joined t freqs (lowered t f) js g → IsReachedApart t g s h r → ListsStart t h
 
 -- Then the function of a computed table at the end of a run is ready to be rewritten.
 abbrev pub ApartRunIsReady : Type 0
 ApartRunIsReady =
-    PhisKeepStart → (live : LiveFunc) (freqs : List ℕ) (f g : Function) (js : List Join) (s r : Slots) (rs : Assignment) (slots : List (ℕ × ClassId))
+    (live : LiveFunc) (freqs : List ℕ) (f g : Function) (js : List Join) (s r : Slots) (rs : Assignment) (slots : List (ℕ × ClassId))
     → IsValid live.target forms.Source f → AreClasses live.target f → 0 < length f.blocks → Joined live.target freqs (lowered live.target f) js g → AreFirst g s
     → IsReachedApart live.target g s live.func r → map (λ p. p.0) slots ≡ slot_numbers r → IsClear live.target live.func rs
     → IsComputed live.target live.func live.table → IsReady live.target live.func rs slots

@@ -18,12 +18,12 @@ TiesKeepLive =
     (t : Target) (f : Function) → shape_fault t forms.Source f ≡ None → AreClasses t f → has_no_phis t f.blocks ≡ true
     → (n : ℕ) (l : Lane) → LiveAt t (ties_lowered t f) (Start n) l → LiveAt t f (Start n) l
 
--- that what is live where a valid source begins without its phis was live there; not proved yet
+-- what is live where a valid source begins without its phis was live there
 abbrev pub PhisKeepStart : Type 0
 PhisKeepStart =
     (t : Target) (f : Function) → IsValid t forms.Source f → (b : Block) → slice_get f.blocks 0 ≡ Some b
     → (l : Lane) → LiveAt t (phis_lowered t f) (Start b.number) l → LiveAt t f (Start b.number) l
 
--- then at the start of a valid source, lowered, no range is live, and its first block lists the units that are
+-- so at the start of a valid source, lowered, no range is live, and its first block lists the units that are
 abbrev pub LoweredIsListed : Type 0
-LoweredIsListed = PhisKeepStart → (t : Target) (f : Function) → IsValid t forms.Source f → AreClasses t f → ListsStart t (lowered t f)
+LoweredIsListed = (t : Target) (f : Function) → IsValid t forms.Source f → AreClasses t f → ListsStart t (lowered t f)

@@ -4,8 +4,8 @@
 //! of splits and spills, the function is ready to be rewritten, for any assignment without clashes, where no range is live at the
 //! start of its first block, which lists the units that are. `run_law` asks the rules of a source of the start instead. What a run
 //! keeps is said of its beginning by `joined_law` and of a step by `step_law`; the laws before these are of blocks, of frame
-//! objects and of the start. `apart_run_law` needs nothing of the start: it rests on one statement that is not proved yet, of phi
-//! elimination.
+//! objects and of the start. `apart_run_law` needs nothing of the start, where each spill's slot is
+//! apart from its range.
 #![tactic(auto)]
 
 ghost use Rattle.ready_laws.specs.Frames.{FirstHasFrames, FramesFit, JoinedHasNoSlots, LoweredHasNoSlots, SpillKeepsFrames, SplitKeepsFrames};
@@ -130,8 +130,7 @@ pub fn phis_live_law()
     ensures { PhisKeepStart }
 {}
 
-/// So at the start of a valid source, lowered, no range is live, and its first block lists the units that are, where phi elimination
-/// makes no more live there.
+/// So at the start of a valid source, lowered, no range is live, and its first block lists the units that are.
 pub fn lowered_listed_law()
     ensures { LoweredIsListed }
 {}
@@ -146,8 +145,7 @@ pub fn apart_law()
     ensures { ApartIsReached }
 {}
 
-/// At their ends no range is live at the start, and the first block lists the units that are, where phi elimination and such spills
-/// make no more live at the starts of blocks.
+/// At their ends no range is live at the start, and the first block lists the units that are.
 pub fn run_starts_law()
     ensures { RunIsListed }
 {}

@@ -13,9 +13,9 @@ use Rattle.spill_laws.proofs.Refining.{spill_refines}
 use Rattle.split_laws.proofs.Splitting.{split_refines}
 use Rattle.run_laws.proofs.Runs.{lowered_is_in_run}
 use Rattle.rewriter.specs.Physical.{Assignment, register_of}
+use Rattle.clear_laws.specs.Spills.{HasEarlyReload}
 use Rattle.sibling_laws.proofs.SlotsApart.{siblings-give-slot-apart}
 use Rattle.run_end_laws.specs.Allocating.{IsAllocating, assigns, spills, splits, start, step, unassigns}
-use Rattle.run_end_laws.specs.Premises.{Premises}
 use Rattle.run_end_laws.specs.States.{AllocatingRefines, KeepsState, StepRefines}
 use Rattle.run_end_laws.proofs.States.{prepared-keeps-state, step-keeps-state}
 
@@ -32,7 +32,7 @@ record Does (t : Target) (f g : Function) (r : Slots) (rs : Assignment) : Type 0
   pub state : KeepsState t g r rs
   pub same : refines t f g
 
-does : {t : Target} {f : Function} {s : Slots} {g : Function} {r : Slots} {rs : Assignment} → Premises t → ((ns : Assignment) → ((v : ℕ) → register_of ns v ≡ None) → KeepsState t f s ns) → IsAllocating t f s g r rs → Does t f g r rs
+does : {t : Target} {f : Function} {s : Slots} {g : Function} {r : Slots} {rs : Assignment} → (HasEarlyReload t → ⊥) → ((ns : Assignment) → ((v : ℕ) → register_of ns v ≡ None) → KeepsState t f s ns) → IsAllocating t f s g r rs → Does t f g r rs
 does {t = t} {f = f} {rs = rs} p begin (start none) = record { state = begin rs none; same = refines_refl (meaning_of t f) }
 does {t = t} {f = f} {rs = new} p begin (step {g = g} {h = h} {r = r} {q = q} {rs = rs} on z) =
     let d = does p begin on in
@@ -45,6 +45,6 @@ pub allocating-refines : AllocatingRefines
 allocating-refines t freqs source f g js s r rs p x on =
     let run = lowered_is_in_run t source x.valid x.classes x.block in
     let joined = joined_refines t freqs (lowered t source) f js run.lowered (form_has_plain_undefs t (lowered t source) run.instrs) x.joined in
-    let allocated = does p (λ ns none. prepared-keeps-state t freqs source f js s ns p x none) on in
+    let allocated = does p (λ ns none. prepared-keeps-state t freqs source f js s ns x none) on in
     refines_trans (meaning_of t source) (meaning_of t (lowered t source)) (meaning_of t g) (lowered_refine t source x.valid x.classes)
     (refines_trans (meaning_of t (lowered t source)) (meaning_of t f) (meaning_of t g) joined.0 allocated.same)

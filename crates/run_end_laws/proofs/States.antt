@@ -8,6 +8,7 @@ use Rattle.spill_laws.proofs.InTurn.{form_has_plain_undefs}
 use Rattle.run_laws.proofs.Runs.{lowered_is_in_run}
 use Rattle.rewriter.specs.Physical.{Assignment, register_of}
 use Rattle.clear_laws.specs.Apart.{IsApart}
+use Rattle.clear_laws.specs.Spills.{HasEarlyReload}
 use Rattle.clear_laws.proofs.Registers.{assign_apart, nothing_apart, unassign_apart}
 use Rattle.clear_laws.proofs.SplitPoints.{split_apart}
 use Rattle.clear_laws.proofs.SpillKept.{places_are_kept}
@@ -26,11 +27,10 @@ use Rattle.sibling_laws.proofs.FirstSiblings.{first-siblings-apart}
 use Rattle.sibling_laws.proofs.Runs.{originals-step-is-slot-step, run-keeps-siblings}
 use Rattle.sibling_laws.proofs.SlotsApart.{siblings-give-slot-apart}
 use Rattle.run_end_laws.specs.Allocating.{IsAllocating, assigns, spills, splits, start, step, unassigns}
-use Rattle.run_end_laws.specs.Premises.{Premises}
 use Rattle.run_end_laws.specs.States.{AllocatingKeepsState, KeepsState, PreparedKeepsState, StepKeepsState}
 
 pub prepared-keeps-state : PreparedKeepsState
-prepared-keeps-state t freqs source f js s rs p x none =
+prepared-keeps-state t freqs source f js s rs x none =
     let run = lowered_is_in_run t source x.valid x.classes x.block in
     let ready = joined-is-ready t freqs source f js s x.valid x.classes x.block x.joined x.first in
     let begin = first-siblings-apart t f s ready.run.lowered (joined-has-no-slots t freqs (lowered t source) f js x.joined (lowered-has-no-slots t source x.valid x.block)) x.first x.own in
@@ -39,13 +39,13 @@ prepared-keeps-state t freqs source f js s rs p x none =
       known = begin.0;
       siblings = begin.1;
       registers = nothing_apart t f rs none;
-      start = joined-keeps-listed t freqs (lowered t source) f js run.lowered (form_has_plain_undefs t (lowered t source) run.instrs) x.joined (lowered-is-listed p.phis t source x.valid x.classes);
+      start = joined-keeps-listed t freqs (lowered t source) f js run.lowered (form_has_plain_undefs t (lowered t source) run.instrs) x.joined (lowered-is-listed t source x.valid x.classes);
     }
 
 -- a step of a run, of whatever kind, where registers and the start are kept
-edited : (t : Target) (f g : Function) (s r : Slots) (rs new : Assignment) → Premises t → KeepsState t f s rs → IsOriginalsStep t f s g r → IsApart t g new → ListsStart t g → KeepsState t g r new
+edited : (t : Target) (f g : Function) (s r : Slots) (rs new : Assignment) → (HasEarlyReload t → ⊥) → KeepsState t f s rs → IsOriginalsStep t f s g r → IsApart t g new → ListsStart t g → KeepsState t g r new
 edited t f g s r rs new p k z registers begin =
-    let kept = run-keeps-siblings t f g s r p.reloads k.ready.run k.known k.siblings (runs.step runs.start z) in
+    let kept = run-keeps-siblings t f g s r p k.ready.run k.known k.siblings (runs.step runs.start z) in
     record {
       ready = step-keeps-ready t f g s r k.ready (originals-step-is-slot-step t f g s r z);
       known = kept.1;
@@ -80,9 +80,9 @@ step-keeps-state t f g s r rs new p k (spills v made left z) =
     (spill_apart (spill_points_by places_are_kept) t f g s r v made rs new run.lowered run.instrs run.undefs apart z left.none left.others k.registers)
     (spill-keeps-listed t f g s r v made z (spill_starts_by places_are_kept t f g s r v made run.lowered run.instrs run.undefs apart z) k.start)
 
-keeps : {t : Target} {f : Function} {s : Slots} {g : Function} {r : Slots} {rs : Assignment} → Premises t → ((ns : Assignment) → ((v : ℕ) → register_of ns v ≡ None) → KeepsState t f s ns) → IsAllocating t f s g r rs → KeepsState t g r rs
+keeps : {t : Target} {f : Function} {s : Slots} {g : Function} {r : Slots} {rs : Assignment} → (HasEarlyReload t → ⊥) → ((ns : Assignment) → ((v : ℕ) → register_of ns v ≡ None) → KeepsState t f s ns) → IsAllocating t f s g r rs → KeepsState t g r rs
 keeps {rs = rs} p begin (start none) = begin rs none
 keeps {t = t} {rs = new} p begin (step {g = g} {h = h} {r = r} {q = q} {rs = rs} on z) = step-keeps-state t g h r q rs new p (keeps p begin on) z
 
 pub allocating-keeps-state : AllocatingKeepsState
-allocating-keeps-state t freqs source f g js s r rs p x on = keeps p (λ ns none. prepared-keeps-state t freqs source f js s ns p x none) on
+allocating-keeps-state t freqs source f g js s r rs p x on = keeps p (λ ns none. prepared-keeps-state t freqs source f js s ns x none) on

@@ -1,4 +1,3 @@
-pub mod Premises
 pub mod Allocating
 pub mod States
 pub mod Ends

@@ -4,7 +4,8 @@
 //! `moved_end_law`, the last three: a valid source is lowered and joined; its ranges get registers and lose them, are split and
 //! are spilled; and once each range that is named has a register, the function in physical form does what the source does, and
 //! is a valid allocated function, also where slots go to others behind that. `state_law` says what each state on the way keeps,
-//! and `step_law` what a step does. What isn't proved yet of the parts is a premise, in one record.
+//! and `step_law` what a step does. They ask that no reload of the target has an early-clobber
+//! definition.
 #![tactic(auto)]
 
 ghost use Rattle.run_end_laws.specs.Allocating.{AllocatingIsReached};
