@@ -4,3 +4,4 @@ mod Reached
 pub mod NumbersTaken
 pub mod LeastFree
 pub mod SlotsGiven
+pub mod FirstUnreserved

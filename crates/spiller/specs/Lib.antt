@@ -5,3 +5,4 @@ pub mod Reaching
 pub mod Setting
 pub mod Rematerialised
 pub mod Spilled
+pub mod Views

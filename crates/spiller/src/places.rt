@@ -1,6 +1,11 @@
 //! How each kind of place changes when its range is spilled.
 
-use crate::kinds::{first_unreserved, home, reload_op, spill_op};
+ghost use Rattle.std.specs.Prelude.{◌≡◌, ℕ};
+ghost use Rattle.spiller.specs.Reaching.{Facts};
+ghost use Rattle.spiller.specs.Setting.{class_beside, moving_class, part_class, own_class};
+ghost use Rattle.spiller.specs.Views.{spilling_of};
+
+use crate::kinds::{reload_op, spill_op};
 use crate::plan::{Plan, SlotPart, SpillView, definition_of, slot_operands, undef_use, use_of};
 use crate::remat::{Remat, UseKey};
 use crate::seats::change_instr;
@@ -9,22 +14,36 @@ use mir_func::operands::{class_of, register_at};
 use mir_func::{Instr, Loc, Operand, RegOp};
 use phi_elim::moves::{whole_definition, whole_use};
 use std::alloc::AllocError;
-use target_base::{ClassId, Effect, IndexId};
+use target_base::{ClassId, Effect, IndexId, Target};
+
+/// The class of the part that an index picks, of a register of a class.
+fn part_class(target: &Target, index: Option<IndexId>, class: Option<ClassId>) -> Option<ClassId>
+    ensures { result ≡ part_class target.now index class }
+{
+    match class {
+        None => None,
+        Some(class) => target.part_at(class, index),
+    }
+}
 
 /// The class whose opcode moves a register side of a copy.
-fn class_beside(view: SpillView<'_>, op: &RegOp) -> ClassId {
+fn class_beside(view: SpillView<'_>, op: &RegOp) -> Option<ClassId>
+    ensures { (slot : ℕ) (facts : Facts) → result ≡ class_beside (spilling_of view.entry slot facts) op.now op.now.loc }
+{
     match op.loc {
-        Loc::Fixed(r) => home(view.target, r),
-        Loc::Virtual(w) => {
-            let class = class_of(view.live.func(), w).unwrap_or(view.class);
-            view.target.part_at(class, op.index).unwrap_or(class)
-        }
+        Loc::Fixed(r) => view.target.home_at(r),
+        Loc::Virtual(w) => part_class(view.target, op.index, class_of(view.live.func(), w)),
     }
 }
 
 /// The class whose opcodes move the lanes of the range that an index picks.
-fn move_class(view: SpillView<'_>, index: Option<IndexId>) -> ClassId {
-    view.target.move_at(view.class, index).unwrap_or(view.class)
+fn moving_class(view: SpillView<'_>, index: Option<IndexId>) -> Option<ClassId>
+    ensures { (slot : ℕ) (facts : Facts) → result ≡ moving_class (spilling_of view.entry slot facts) index }
+{
+    match view.own_class() {
+        None => None,
+        Some(class) => view.target.move_at(class, index),
+    }
 }
 
 /// The lanes that an operand names in the range, or that an index picks of its slot.
@@ -96,7 +115,7 @@ fn change_own_copy(
     }
     let source = plan.own_part(from.index);
     let goal = plan.own_part(to.index);
-    let class = move_class(view, to.index);
+    let class = moving_class(view, to.index);
     through_tiny(view, instr, source, goal, class, plan)
 }
 
@@ -130,7 +149,7 @@ fn through_tiny(
     instr: &Instr,
     from: SlotPart,
     to: SlotPart,
-    class: ClassId,
+    class: Option<ClassId>,
     plan: &mut Plan,
 ) -> Result<(), AllocError> {
     let tiny = plan.tiny(class, plan.next_id())?;
@@ -188,7 +207,7 @@ fn change_slot_access(
     if is_own_slot(view, plan, &register, there) {
         return plan.erase(instr.id);
     }
-    let class = move_class(view, register.index);
+    let class = moving_class(view, register.index);
     let own = plan.own_part(register.index);
     match effect_of(view.target, instr) {
         Some(Effect::Spill) => through_tiny(view, instr, own, there, class, plan),
@@ -204,12 +223,8 @@ fn change_undefined(view: SpillView<'_>, instr: &Instr, plan: &mut Plan) -> Resu
     if !view.is_live_behind(op.index, instr.id) {
         return plan.erase(instr.id);
     }
-    let class = view
-        .target
-        .part_at(view.class, op.index)
-        .unwrap_or(view.class);
-    let r = first_unreserved(view.target, class);
+    let class = part_class(view.target, op.index, view.own_class());
     let own = plan.own_part(op.index);
-    let operands = slot_operands(view.alloc, undef_use(r), own)?;
+    let operands = slot_operands(view.alloc, undef_use(view.target, class), own)?;
     plan.replace(instr.id, spill_op(view.target, class), operands)
 }

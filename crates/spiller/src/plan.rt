@@ -1,13 +1,22 @@
 //! The edits that spill a range, gathered before any of them is done.
 
-use crate::kinds::reload_op;
+ghost use Rattle.std.specs.Prelude.{◌≡◌, IfOk, OnOk, [], ◌∷◌, ◌++◌, drop};
+ghost use Rattle.target_base.specs.declared.types.OpId.{OpId};
+ghost use Rattle.mir_func.specs.declared.func.Op.TheVariants as ops;
+ghost use Rattle.mir_func.specs.declared.func.Operand.TheVariants as operands;
+ghost use Rattle.mir_func.specs.Binding.{class_of};
+ghost use Rattle.mir_meaning.specs.Points.{is_range};
+ghost use Rattle.spiller.specs.Setting.{plain_use, plain_definition, undef_use, lanes_named};
+
+use crate::kinds::{first_unreserved, reload_op};
 use interference::{Tinies, Tiny};
 use live_edits::Edit;
 use live_lanes::LiveFunc;
+use mir_func::operands::class_of;
 use mir_func::{Gap, Instr, Loc, Op, Operand, Operands, RegOp};
 use phi_elim::moves::{whole_definition, whole_use};
 use std::alloc::{AllocError, Global};
-use target_base::{ClassId, Copied, IndexId, OpId, Reg, Target};
+use target_base::{ClassId, Copied, IndexId, OpId, Target};
 
 /// What spilling looks at: the function as it stands before.
 #[derive(Clone, Copy)]
@@ -17,8 +26,6 @@ pub(crate) struct SpillView<'a> {
     pub live: &'a LiveFunc,
     /// The range that is spilled.
     pub v: u32,
-    /// Its class.
-    pub class: ClassId,
 }
 
 /// Edits in order, and the new ranges that they name.
@@ -28,7 +35,7 @@ pub(crate) struct Plan {
     pub edits: Vec<Edit>,
     pub tinies: Tinies,
     /// The classes of the tinies.
-    pub classes: Vec<ClassId>,
+    pub classes: Vec<Option<ClassId>>,
     /// The slot of the range.
     pub slot: u32,
     /// Whether a store or a reload names it.
@@ -79,7 +86,7 @@ impl Plan {
         &mut self,
         view: SpillView<'_>,
         at: u32,
-        class: ClassId,
+        class: Option<ClassId>,
         register: RegOp,
         from: SlotPart,
     ) -> Result<(), AllocError> {
@@ -115,7 +122,7 @@ impl Plan {
     }
 
     /// Notes a new range of a class for a place, and answers its number.
-    pub fn tiny(&mut self, class: ClassId, at: u32) -> Result<u32, AllocError> {
+    pub fn tiny(&mut self, class: Option<ClassId>, at: u32) -> Result<u32, AllocError> {
         let range = self.next_range;
         self.classes.push(class)?;
         self.tinies.push(Tiny { range, at })?;
@@ -130,7 +137,9 @@ impl Plan {
 }
 
 /// An opcode of the target; opcode 0 for an excluded one.
-pub(crate) fn op_of(instr: &Instr) -> OpId {
+pub(crate) fn op_of(instr: &Instr) -> OpId
+    ensures { (op : OpId) → instr.now.op ≡ ops.Known op → result ≡ op }
+{
     match &instr.op {
         Op::Known(op) => *op,
         Op::Excluded(_) => OpId(0),
@@ -138,7 +147,9 @@ pub(crate) fn op_of(instr: &Instr) -> OpId {
 }
 
 /// A use of lanes of a register, without flags.
-pub(crate) fn use_of(loc: Loc, index: Option<IndexId>) -> RegOp {
+pub(crate) fn use_of(loc: Loc, index: Option<IndexId>) -> RegOp
+    ensures { result ≡ plain_use loc index }
+{
     RegOp {
         loc,
         index,
@@ -147,7 +158,9 @@ pub(crate) fn use_of(loc: Loc, index: Option<IndexId>) -> RegOp {
 }
 
 /// A definition of lanes of a register, without flags.
-pub(crate) fn definition_of(loc: Loc, index: Option<IndexId>) -> RegOp {
+pub(crate) fn definition_of(loc: Loc, index: Option<IndexId>) -> RegOp
+    ensures { result ≡ plain_definition loc index }
+{
     RegOp {
         loc,
         index,
@@ -155,11 +168,13 @@ pub(crate) fn definition_of(loc: Loc, index: Option<IndexId>) -> RegOp {
     }
 }
 
-/// A use of a fixed register as undefined.
-pub(crate) fn undef_use(r: Reg) -> RegOp {
+/// An `undef` use of the first unreserved register of a class.
+pub(crate) fn undef_use(target: &Target, class: Option<ClassId>) -> RegOp
+    ensures { result ≡ undef_use target.now class }
+{
     RegOp {
         undef: true,
-        ..use_of(Loc::Fixed(r), None)
+        ..use_of(Loc::Fixed(first_unreserved(target, class)), None)
     }
 }
 
@@ -177,15 +192,24 @@ pub(crate) fn slot_operands(
     alloc: Global,
     register: RegOp,
     part: SlotPart,
-) -> Result<Operands, AllocError> {
+) -> Result<Operands, AllocError>
+    ensures { IfOk result (λ os. os ≡ operands.Reg register ∷ operands.Stack part.slot ∷ lanes_named part.index ∷ []) }
+{
     let mut operands = Operands::new(alloc);
     operands.push(Operand::Reg(register))?;
     operands.push(Operand::Stack(part.slot))?;
-    operands.push(match part.index {
+    operands.push(lanes_named(part.index))?;
+    Ok(operands)
+}
+
+/// How a store or a reload names lanes of its slot: an index, or 0 for all.
+fn lanes_named(index: Option<IndexId>) -> Operand
+    ensures { result ≡ lanes_named index }
+{
+    match index {
         Some(index) => Operand::Index(index),
         None => Operand::Imm(0),
-    })?;
-    Ok(operands)
+    }
 }
 
 /// The operands of a constant or an address with another register in the place of its one definition,
@@ -194,13 +218,25 @@ fn rematerialised_operands(
     alloc: Global,
     instr: &Instr,
     register: RegOp,
-) -> Result<Operands, AllocError> {
+) -> Result<Operands, AllocError>
+    ensures { IfOk result (λ os. os ≡ operands.Reg register ∷ drop 1 instr.now.operands) }
+{
     let mut operands = Operands::new(alloc);
     operands.push(Operand::Reg(register))?;
-    'operands: for operand in instr.operands.as_slice().iter().skip(1) {
-        operands.push(operand.copied(alloc)?)?;
+    if let [_, behind @ ..] = instr.operands.as_slice() {
+        push_all(alloc, &mut operands, behind)?;
     }
     Ok(operands)
+}
+
+/// Adds equal operands at the end.
+fn push_all(alloc: Global, operands: &mut Operands, others: &[Operand]) -> Result<(), AllocError>
+    ensures { OnOk result (operands.new ≡ operands.old ++ others.now) }
+{
+    'others: for operand in others {
+        operands.push(operand.copied(alloc)?)?;
+    }
+    Ok(())
 }
 
 impl<'a> SpillView<'a> {
@@ -234,9 +270,21 @@ impl<'a> SpillView<'a> {
         }
     }
 
+    /// The class of the range that is spilled.
+    pub fn own_class(&self) -> Option<ClassId>
+        ensures { result ≡ class_of self.now.live.now.func self.now.v }
+    {
+        class_of(self.live.func(), self.v)
+    }
+
     /// Whether an operand is the range that is spilled.
-    pub fn is_own(&self, op: &RegOp) -> bool {
-        op.loc == Loc::Virtual(self.v)
+    pub fn is_own(&self, op: &RegOp) -> bool
+        ensures { result ≡ is_range self.now.v op.now.loc }
+    {
+        match op.loc {
+            Loc::Virtual(w) => self.v == w,
+            Loc::Fixed(_) => false,
+        }
     }
 
     /// Whether some lane of the range that an operand names is live at the exit of an instruction.

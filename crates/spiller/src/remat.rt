@@ -1,25 +1,29 @@
 //! Which readings of a range are rematerialised: the instruction that defines it is repeated in
 //! place of a reload.
 
-use crate::kinds::is_within;
+ghost use Rattle.std.specs.Prelude.{◌≡◌};
+ghost use Rattle.target_base.specs.Storage.{is_within};
+ghost use Rattle.mir_func.specs.Binding.{does};
+ghost use Rattle.spiller.specs.Rematerialised.{is_constant, definition_class, whole_class, repeatable_class, serves};
+ghost use Rattle.spiller.specs.Views.{wish_of};
+
 use crate::plan::SpillView;
 use crate::reaching::{BlockTouches, RangeTouch, ReadLanes, reach_at_starts, readings_reached};
 use crate::roles::{IndexedClass, naming_of, operand_of_range};
 use mir_func::opcodes::{effect_of, is_terminator, is_tied, next_role, roles_of};
 use mir_func::operands::register_at;
-use mir_func::{Instr, Loc, RegOp};
+use mir_func::{Instr, Loc, Operand, RegOp};
 use std::alloc::{AllocError, Global};
-use target_base::classes::class_of;
-use target_base::roles::is_definition;
-use target_base::{Boxed, ClassId, Effect, Reg, Role};
+use target_base::classes::{are_within, class_of, holds};
+use target_base::{Boxed, ClassId, Effect, Reg, Role, Target};
 
 /// What a reading asks of the instruction that is repeated for it.
 #[derive(Clone, Copy, PartialEq, Eq)]
 enum RematConstraint {
     /// It can't be rematerialised.
     Never,
-    /// Its class lies within this one's.
-    Class(ClassId),
+    /// Its class holds all registers of this one.
+    Class(Option<ClassId>),
     /// This register lies in its class.
     Fixed(Reg),
 }
@@ -86,12 +90,24 @@ struct Reach {
     readings: Vec<usize>,
 }
 
-/// Whether an instruction can be repeated.
-fn is_repeatable(view: SpillView<'_>, instr: &Instr) -> bool {
-    matches!(
-        effect_of(view.target, instr),
-        Some(Effect::Const | Effect::Addr)
-    )
+/// Whether an instruction of this effect loads a constant or an address.
+fn is_constant(effect: Effect) -> bool
+    ensures { result ≡ is_constant effect }
+{
+    match effect {
+        Effect::Const | Effect::Addr => true,
+        _ => false,
+    }
+}
+
+/// Whether an instruction loads a constant or an address, and so can be repeated.
+fn is_repeatable(target: &Target, instr: &Instr) -> bool
+    ensures { result ≡ does is_constant target.now instr.now }
+{
+    match effect_of(target, instr) {
+        None => false,
+        Some(effect) => is_constant(effect),
+    }
 }
 
 /// Plans what is rematerialised of the range.
@@ -115,7 +131,7 @@ pub(crate) fn plan_remat(view: SpillView<'_>, touched: &[u32]) -> Result<Remat, 
 
 fn has_repeatable(view: SpillView<'_>, touched: &[u32]) -> bool {
     touched.iter().any(|id| match view.live.instr(*id) {
-        Some(instr) => is_repeatable(view, instr),
+        Some(instr) => is_repeatable(view.target, instr),
         None => false,
     })
 }
@@ -378,31 +394,57 @@ fn is_good(view: SpillView<'_>, reading: &RematUse) -> bool {
     let Some(instr) = view.live.instr(id) else {
         return false;
     };
-    is_repeatable(view, instr) && suits(view, instr, reading.wish)
+    serves(
+        view.target,
+        reading.wish,
+        repeatable_class(view.target, instr),
+    )
 }
 
-/// Whether the instruction of a definition, repeated, gives what a reading asks for.
-fn suits(view: SpillView<'_>, instr: &Instr, wish: RematConstraint) -> bool {
-    let Some(class) = repeated_class(view, instr) else {
-        return false;
-    };
-    match wish {
-        RematConstraint::Never => false,
-        RematConstraint::Class(own) => is_within(view.target, own, class),
-        RematConstraint::Fixed(r) => view.target.regs_in(class).contains(&r),
+/// Whether an instruction that may be repeated for a class gives what a reading asks for.
+fn serves(target: &Target, wish: RematConstraint, class: Option<ClassId>) -> bool
+    ensures { result ≡ serves target.now (wish_of wish) class }
+{
+    match (wish, class) {
+        (RematConstraint::Class(Some(own)), Some(class)) => {
+            are_within(target.regs_in(own), target.regs_in(class))
+        }
+        (RematConstraint::Fixed(r), Some(class)) => holds(target.regs_in(class), r),
+        _ => false,
     }
 }
 
-/// The class of the definition of a constant or an address that defines a whole range.
-fn repeated_class(view: SpillView<'_>, instr: &Instr) -> Option<ClassId> {
-    if register_at(instr.operands.as_slice(), 0)?.index.is_some() {
-        return None;
-    }
-    let role = next_role(roles_of(view.target, instr)).0?;
-    if is_definition(role) {
-        class_of(role)
+/// The class of an instruction that may be repeated: a constant or an address for a whole register.
+fn repeatable_class(target: &Target, instr: &Instr) -> Option<ClassId>
+    ensures { result ≡ repeatable_class target.now instr.now }
+{
+    if is_repeatable(target, instr) {
+        whole_class(target, instr)
     } else {
         None
+    }
+}
+
+/// The class of an instruction's definition, its first operand, where that is of a whole register.
+fn whole_class(target: &Target, instr: &Instr) -> Option<ClassId>
+    ensures { result ≡ whole_class target.now instr.now instr.now.operands }
+{
+    match instr.operands.as_slice() {
+        [Operand::Reg(op), ..] => match op.index {
+            None => definition_class(roles_of(target, instr)),
+            Some(_) => None,
+        },
+        _ => None,
+    }
+}
+
+/// The class of the definition, whose role is the first.
+fn definition_class(roles: &[Role]) -> Option<ClassId>
+    ensures { result ≡ definition_class roles.now }
+{
+    match roles {
+        [] => None,
+        [role, ..] => class_of(*role),
     }
 }
 
@@ -425,7 +467,7 @@ fn delete_unread(
 
 fn is_repeatable_id(view: SpillView<'_>, id: u32) -> bool {
     match view.live.instr(id) {
-        Some(instr) => is_repeatable(view, instr),
+        Some(instr) => is_repeatable(view.target, instr),
         None => false,
     }
 }

@@ -1,7 +1,8 @@
 //! What the operands of an instruction say of the range.
 
-ghost use Rattle.std.specs.Prelude.{◌≡◌};
-ghost use Rattle.mir_func.specs.Binding.{operand_class};
+ghost use Rattle.std.specs.Prelude.{◌≡◌, cond, Some, None, option_and_then};
+ghost use Rattle.mir_func.specs.Binding.{as_register, operand_class};
+ghost use Rattle.mir_meaning.specs.Points.{is_range};
 
 use crate::plan::SpillView;
 use mir_func::opcodes::asked_class;
@@ -14,25 +15,28 @@ use target_base::{ClassId, IndexId, Role, Target};
 pub(crate) struct IndexedClass {
     /// The index.
     pub index: Option<IndexId>,
-    /// The operand class.
-    pub class: ClassId,
+    /// The operand class; none where it has none.
+    pub class: Option<ClassId>,
 }
 
 /// The register operand, where it is the range.
-pub(crate) fn operand_of_range(view: SpillView<'_>, operand: &Operand) -> Option<RegOp> {
+pub(crate) fn operand_of_range(view: SpillView<'_>, operand: &Operand) -> Option<RegOp>
+    ensures { result ≡ option_and_then (λ o. cond (is_range view.entry.v o.loc) (Some o) None) (as_register operand.now) }
+{
     match operand {
         Operand::Reg(op) if view.is_own(op) => Some(*op),
         _ => None,
     }
 }
 
-/// How an operand with its role names the range. Where it has no operand class, the range's own stands
-/// for it.
-pub(crate) fn naming_of(view: SpillView<'_>, role: Option<Role>, op: &RegOp) -> IndexedClass {
-    let class = operand_class(view.target, view.live.func(), role, op);
+/// How an operand with its role names the range.
+pub(crate) fn naming_of(view: SpillView<'_>, role: Option<Role>, op: &RegOp) -> IndexedClass
+    ensures index { result.index ≡ op.now.index }
+    ensures class { result.class ≡ operand_class view.entry.target.now view.entry.live.now.func role op.now }
+{
     IndexedClass {
         index: op.index,
-        class: class.unwrap_or(view.class),
+        class: operand_class(view.target, view.live.func(), role, op),
     }
 }
 

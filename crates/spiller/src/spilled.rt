@@ -8,7 +8,6 @@ use crate::slot_map::SlotMap;
 use crate::stop::RunStop;
 use interference::{Matrix, Tinies};
 use mir_func::opcodes::is_terminator;
-use mir_func::operands::class_of;
 use std::alloc::{AllocError, Global};
 use target_base::ClassId;
 
@@ -45,10 +44,15 @@ pub fn spill(
     Ok(tinies)
 }
 
-/// Makes ranges of these classes, each its own original.
-fn make_ranges(m: &mut Matrix, slots: &mut SlotMap, classes: &[ClassId]) -> Result<(), AllocError> {
+/// Makes ranges of these classes, each its own original. Every tiny of a function that is sound has a
+/// class; class 0 stands for one that is missing.
+fn make_ranges(
+    m: &mut Matrix,
+    slots: &mut SlotMap,
+    classes: &[Option<ClassId>],
+) -> Result<(), AllocError> {
     'classes: for class in classes {
-        let tiny = m.fresh(*class)?;
+        let tiny = m.fresh(class.unwrap_or(ClassId(0)))?;
         slots.add_original(tiny)?;
     }
     Ok(())
@@ -68,7 +72,6 @@ fn plan_spill(
         target: live.target(),
         live,
         v,
-        class: class_of(live.func(), v).unwrap_or(ClassId(0)),
     };
     let remat = plan_remat(view, touched)?;
     // (a place is changed in three steps at most: a reload, the instruction, a store)
