@@ -5,3 +5,5 @@ pub mod NumbersTaken
 pub mod LeastFree
 pub mod SlotsGiven
 pub mod FirstUnreserved
+pub mod FirstLanes
+pub mod WaysFound

@@ -1,6 +1,18 @@
--- What the code looks at while it plans a spill, as the definition's words name it.
-use Rattle.std.specs.Prelude.{ℕ}
+-- What the code looks at while it plans a spill, and the plan, as the definition's words name them.
+use Rattle.std.specs.Prelude.{ℕ, Bool, false, ◌&&◌, length, ◌+◌, ◌-◌, ◌^◌, List, [], ◌∷◌, ◌++◌, Option, option_map, find, map, min}
+use Rattle.target_base.specs.declared.types.ClassId.{ClassId}
+use Rattle.target_base.specs.declared.types.OpId.{OpId}
+use Rattle.mir_func.specs.Value.{Function}
+use Rattle.mir_func.specs.Binding.{same_index}
+use Rattle.mir_func.specs.declared.func.Gap.{Gap}
+use Rattle.mir_func.specs.declared.func.Operand.{Operand}
+use Rattle.mir_meaning.specs.Places.{Variable, Using, variable, same_class, same_use}
+use Rattle.live_edits.specs.declared.edit.Edit.{Edit}
+use Rattle.live_edits.specs.declared.edit.Edit.TheVariants as edits
 use Rattle.spiller.specs.declared.plan.SpillView.{SpillView}
+use Rattle.spiller.specs.declared.plan.Plan.{Plan}
+use Rattle.spiller.specs.declared.roles.IndexedClass.{IndexedClass}
+use Rattle.spiller.specs.declared.seats.ReadTiny.{ReadTiny}
 use Rattle.spiller.specs.declared.remat.RematConstraint.{RematConstraint}
 use Rattle.spiller.specs.declared.remat.RematConstraint.TheVariants as constraints
 use Rattle.spiller.specs.Reaching.{Facts}
@@ -11,8 +23,64 @@ use Rattle.spiller.specs.Rematerialised.{Wish, Never, Within, Holding}
 abbrev pub spilling_of : SpillView → ℕ → Facts → Spilling
 spilling_of view slot facts = record { target = view.target.now; func = view.live.now.func; range = view.v; slot = slot; facts = facts }
 
+-- a use that names the range so
+abbrev pub way_of : ℕ → IndexedClass → Variable
+way_of v x = variable Using v x.index x.class
+
+-- the index and the operand class are the same
+abbrev pub same_way : IndexedClass → IndexedClass → Bool
+same_way a b = same_index a.index b.index && same_class a.class b.class
+
+-- ways of reading, each with its tiny
+abbrev pub ways_of : ℕ → List ReadTiny → List (ℕ × Variable)
+ways_of v xs = map (λ x. (x.range, way_of v x.indexed_class)) xs
+
+-- the tiny of a way of reading
+abbrev pub tiny_of_way : ℕ → IndexedClass → List (ℕ × Variable) → Option ℕ
+tiny_of_way v x ways = option_map (λ p. p.0) (find (λ p. same_use (way_of v x) p.1) ways)
+
 -- what a reading asks
 abbrev pub wish_of : RematConstraint → Wish
 wish_of constraints.Never = Never
 wish_of (constraints.Class k) = Within k
 wish_of (constraints.Fixed r) = Holding r
+
+-- A plan: the edits in order; the tinies, each with its range number and with the instruction that names its place,
+-- and their classes; whether a store or a reload names the slot; and the numbers that are given next.
+pub record Planned : Type 0 where
+  pub edits : List Edit
+  pub tinies : List (ℕ × ℕ)
+  pub classes : List (Option ClassId)
+  pub uses_slot : Bool
+  pub next_range : ℕ
+  pub next_id : ℕ
+
+abbrev pub planned : Plan → Planned
+planned p = record {
+  edits = p.edits.items;
+  tinies = map (λ x. (x.range, x.at)) p.tinies;
+  classes = p.classes.items;
+  uses_slot = p.uses_slot;
+  next_range = p.next_range;
+  next_id = p.next_id;
+}
+
+-- nothing is planned for the function
+abbrev pub no_plan : Function → Planned
+no_plan f = record { edits = []; tinies = []; classes = []; uses_slot = false; next_range = length f.classes; next_id = f.next_id }
+
+-- the number after this one, as far as numbers go
+abbrev pub number_after : ℕ → ℕ
+number_after n = min (n + 1) (2 ^ 32 - 1)
+
+-- a further edit
+abbrev pub with_edit : Edit → Planned → Planned
+with_edit e p = record p { edits = p.edits ++ e ∷ [] }
+
+-- a further instruction that is put
+abbrev pub with_put : Gap → OpId → List Operand → Planned → Planned
+with_put gap op os p = record (with_edit (edits.Put gap op os) p) { next_id = number_after p.next_id }
+
+-- a further tiny
+abbrev pub with_tiny : Option ClassId → ℕ → Planned → Planned
+with_tiny k at p = record p { tinies = p.tinies ++ (p.next_range, at) ∷ []; classes = p.classes ++ k ∷ []; next_range = number_after p.next_range }

@@ -1,8 +1,11 @@
 //! How each kind of place changes when its range is spilled.
 
-ghost use Rattle.std.specs.Prelude.{◌≡◌, ℕ};
+ghost use Rattle.std.specs.Prelude.{◌≡◌, ℕ, None};
+ghost use Rattle.target_base.specs.Registers.{lanes_of};
+ghost use Rattle.target_base.specs.Storage.{same_numbers};
+ghost use Rattle.mir_meaning.specs.Registers.{numbers};
 ghost use Rattle.spiller.specs.Reaching.{Facts};
-ghost use Rattle.spiller.specs.Setting.{class_beside, moving_class, part_class, own_class};
+ghost use Rattle.spiller.specs.Setting.{class_beside, moving_class, part_class, own_lanes};
 ghost use Rattle.spiller.specs.Views.{spilling_of};
 
 use crate::kinds::{reload_op, spill_op};
@@ -46,20 +49,51 @@ fn moving_class(view: SpillView<'_>, index: Option<IndexId>) -> Option<ClassId>
     }
 }
 
-/// The lanes that an operand names in the range, or that an index picks of its slot.
-fn have_same_lanes(view: SpillView<'_>, a: Option<IndexId>, b: Option<IndexId>) -> bool {
+/// Whether two operands with these indexes name the same lanes of the range in the same order.
+fn have_same_lanes(view: SpillView<'_>, a: Option<IndexId>, b: Option<IndexId>) -> bool
+    ensures { (slot : ℕ) (facts : Facts) → result ≡ same_numbers (own_lanes (spilling_of view.entry slot facts) a) (own_lanes (spilling_of view.entry slot facts) b) }
+{
     match (a, b) {
         (None, None) => true,
-        (Some(a), Some(b)) => view.target.lanes_at(a) == view.target.lanes_at(b),
+        (Some(a), Some(b)) => pick_same_lanes(view.target, a, b),
         (None, Some(index)) => picks_all(view, index),
         (Some(index), None) => picks_all(view, index),
     }
 }
 
+/// Whether two indexes pick the same lanes in the same order.
+fn pick_same_lanes(target: &Target, a: IndexId, b: IndexId) -> bool
+    ensures { result ≡ same_numbers (lanes_of target.now a) (lanes_of target.now b) }
+{
+    are_same_lanes(target.lanes_at(a), target.lanes_at(b))
+}
+
+fn are_same_lanes(a: &[u8], b: &[u8]) -> bool
+    ensures { result ≡ same_numbers a.now b.now }
+{
+    a == b
+}
+
 /// Whether an index picks all lanes of the range in order.
-fn picks_all(view: SpillView<'_>, index: IndexId) -> bool {
-    view.target.lanes_at(index).len() == view.live.lane_count(view.v) as usize
-        && is_first_lanes(view, index)
+fn picks_all(view: SpillView<'_>, index: IndexId) -> bool
+    ensures { (slot : ℕ) (facts : Facts) → result ≡ same_numbers (own_lanes (spilling_of view.entry slot facts) None) (lanes_of view.entry.target.now index) }
+{
+    are_first_lanes(view.target.lanes_at(index), view.lane_count())
+}
+
+/// Whether these are so many lanes, from the first one on.
+fn are_first_lanes(lanes: &[u8], count: usize) -> bool
+    ensures { result ≡ same_numbers (numbers 0 count) lanes.now }
+{
+    if lanes.len() != count {
+        return false;
+    }
+    'lanes: for k in 0..lanes.len() {
+        if lanes[k] as usize != k {
+            return false;
+        }
+    }
+    true
 }
 
 /// Changes the place of one instruction that isn't a terminator.

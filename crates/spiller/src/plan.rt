@@ -1,11 +1,14 @@
 //! The edits that spill a range, gathered before any of them is done.
 
-ghost use Rattle.std.specs.Prelude.{◌≡◌, IfOk, OnOk, [], ◌∷◌, ◌++◌, drop};
+ghost use Rattle.std.specs.Prelude.{◌≡◌, IfOk, OnOk, true, [], ◌∷◌, ◌++◌, ◌<◌, ◌^◌, drop, length};
 ghost use Rattle.target_base.specs.declared.types.OpId.{OpId};
 ghost use Rattle.mir_func.specs.declared.func.Op.TheVariants as ops;
 ghost use Rattle.mir_func.specs.declared.func.Operand.TheVariants as operands;
 ghost use Rattle.mir_func.specs.Binding.{class_of};
 ghost use Rattle.mir_meaning.specs.Points.{is_range};
+ghost use Rattle.mir_meaning.specs.Registers.{range_widths};
+ghost use Rattle.live_edits.specs.declared.edit.Edit.TheVariants as edits;
+ghost use Rattle.spiller.specs.Views.{planned, no_plan, with_put, with_edit, with_tiny};
 ghost use Rattle.spiller.specs.Setting.{plain_use, plain_definition, undef_use, lanes_named};
 
 use crate::kinds::{first_unreserved, reload_op};
@@ -46,7 +49,10 @@ pub(crate) struct Plan {
 
 impl Plan {
     /// No edits of a function, with the slot of the range and with room for so many edits.
-    pub fn new(view: SpillView<'_>, slot: u32, room: usize) -> Result<Plan, AllocError> {
+    pub fn new(view: SpillView<'_>, slot: u32, room: usize) -> Result<Plan, AllocError>
+        ensures slot { IfOk result (λ p. p.slot ≡ slot) }
+        ensures plan { length view.entry.live.now.func.classes < 2 ^ 32 → IfOk result (λ p. planned p ≡ no_plan view.entry.live.now.func) }
+    {
         let f = view.live.func();
         Ok(Plan {
             alloc: view.alloc,
@@ -61,19 +67,26 @@ impl Plan {
     }
 
     /// The id of the instruction that is put next.
-    pub fn next_id(&self) -> u32 {
+    pub fn next_id(&self) -> u32
+        ensures { result ≡ self.now.next_id }
+    {
         self.next_id
     }
 
     /// Notes that an instruction is put into a gap.
-    pub fn put(&mut self, gap: Gap, op: OpId, operands: Operands) -> Result<(), AllocError> {
+    pub fn put(&mut self, gap: Gap, op: OpId, operands: Operands) -> Result<(), AllocError>
+        ensures { OnOk result (planned self.new ≡ with_put gap op operands (planned self.old)) }
+    {
         self.edits.push(Edit::Put(gap, op, operands))?;
         self.next_id = self.next_id.saturating_add(1);
         Ok(())
     }
 
     /// Lanes of the slot of the range, for a store or a reload.
-    pub fn own_part(&mut self, index: Option<IndexId>) -> SlotPart {
+    pub fn own_part(&mut self, index: Option<IndexId>) -> SlotPart
+        ensures part { result ≡ record { slot = self.old.slot; index = index } }
+        ensures plan { planned self.new ≡ record (planned self.old) { uses_slot = true } }
+    {
         self.uses_slot = true;
         SlotPart {
             slot: self.slot,
@@ -110,19 +123,26 @@ impl Plan {
     }
 
     /// Notes that an instruction becomes another one in its place.
-    pub fn replace(&mut self, id: u32, op: OpId, operands: Operands) -> Result<(), AllocError> {
+    pub fn replace(&mut self, id: u32, op: OpId, operands: Operands) -> Result<(), AllocError>
+        ensures { OnOk result (planned self.new ≡ with_edit (edits.Replace id op operands) (planned self.old)) }
+    {
         self.edits.push(Edit::Replace(id, op, operands))?;
         Ok(())
     }
 
     /// Notes that an instruction goes.
-    pub fn erase(&mut self, id: u32) -> Result<(), AllocError> {
+    pub fn erase(&mut self, id: u32) -> Result<(), AllocError>
+        ensures { OnOk result (planned self.new ≡ with_edit (edits.Erase id) (planned self.old)) }
+    {
         self.edits.push(Edit::Erase(id))?;
         Ok(())
     }
 
     /// Notes a new range of a class for a place, and answers its number.
-    pub fn tiny(&mut self, class: Option<ClassId>, at: u32) -> Result<u32, AllocError> {
+    pub fn tiny(&mut self, class: Option<ClassId>, at: u32) -> Result<u32, AllocError>
+        ensures range { IfOk result (λ v. v ≡ self.old.next_range) }
+        ensures plan { OnOk result (planned self.new ≡ with_tiny class at (planned self.old)) }
+    {
         let range = self.next_range;
         self.classes.push(class)?;
         self.tinies.push(Tiny { range, at })?;
@@ -275,6 +295,13 @@ impl<'a> SpillView<'a> {
         ensures { result ≡ class_of self.now.live.now.func self.now.v }
     {
         class_of(self.live.func(), self.v)
+    }
+
+    /// The number of lanes of the range.
+    pub fn lane_count(&self) -> usize
+        ensures { result ≡ length (range_widths self.now.target.now self.now.live.now.func self.now.v) }
+    {
+        self.target.class_units(self.own_class()).len()
     }
 
     /// Whether an operand is the range that is spilled.

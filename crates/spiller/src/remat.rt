@@ -1,10 +1,11 @@
 //! Which readings of a range are rematerialised: the instruction that defines it is repeated in
 //! place of a reload.
 
-ghost use Rattle.std.specs.Prelude.{◌≡◌};
+ghost use Rattle.std.specs.Prelude.{◌≡◌, cond};
+ghost use Rattle.target_base.specs.Roles.{is_tied};
 ghost use Rattle.target_base.specs.Storage.{is_within};
-ghost use Rattle.mir_func.specs.Binding.{does};
-ghost use Rattle.spiller.specs.Rematerialised.{is_constant, definition_class, whole_class, repeatable_class, serves};
+ghost use Rattle.mir_func.specs.Binding.{does, passes, operand_class};
+ghost use Rattle.spiller.specs.Rematerialised.{is_constant, definition_class, whole_class, repeatable_class, serves, if_whole, copy_wish, Never, Within};
 ghost use Rattle.spiller.specs.Views.{wish_of};
 
 use crate::plan::SpillView;
@@ -15,7 +16,7 @@ use mir_func::operands::register_at;
 use mir_func::{Instr, Loc, Operand, RegOp};
 use std::alloc::{AllocError, Global};
 use target_base::classes::{are_within, class_of, holds};
-use target_base::{Boxed, ClassId, Effect, Reg, Role, Target};
+use target_base::{Boxed, ClassId, Effect, IndexId, Reg, Role, Target};
 
 /// What a reading asks of the instruction that is repeated for it.
 #[derive(Clone, Copy, PartialEq, Eq)]
@@ -219,17 +220,8 @@ fn add_move(
     if !view.is_own(&op) || op.undef || lanes == 0 {
         return Ok(());
     }
-    let wish = match (source, op.index, register_at(instr.operands.as_slice(), 0)) {
-        (
-            1,
-            None,
-            Some(
-                RegOp {
-                    loc: Loc::Fixed(r),
-                    ..
-                },
-            ),
-        ) => RematConstraint::Fixed(r),
+    let wish = match (source, register_at(instr.operands.as_slice(), 0)) {
+        (1, Some(to)) => if_whole(op.index, copy_wish(to.loc)),
         _ => RematConstraint::Never,
     };
     let key = UseKey {
@@ -237,6 +229,26 @@ fn add_move(
         indexed_class: None,
     };
     add_reading(key, wish, lanes, event, readings)
+}
+
+/// A wish that only a reading without an index has.
+fn if_whole(index: Option<IndexId>, wish: RematConstraint) -> RematConstraint
+    ensures { wish_of result ≡ if_whole index (wish_of wish) }
+{
+    match index {
+        None => wish,
+        Some(_) => RematConstraint::Never,
+    }
+}
+
+/// What a copy to a register asks: one to a fixed register, that the class holds this.
+fn copy_wish(to: Loc) -> RematConstraint
+    ensures { wish_of result ≡ copy_wish to }
+{
+    match to {
+        Loc::Virtual(_) => RematConstraint::Never,
+        Loc::Fixed(r) => RematConstraint::Fixed(r),
+    }
 }
 
 /// The instruction that names the place of another: itself, or the first terminator of its block.
@@ -295,7 +307,9 @@ fn key_of(
     at: u32,
     role: Option<Role>,
     op: &RegOp,
-) -> (UseKey, RematConstraint) {
+) -> (UseKey, RematConstraint)
+    ensures { wish_of result.1 ≡ cond (passes is_tied role) Never (if_whole op.now.index (Within (operand_class view.entry.target.now view.entry.live.now.func role op.now))) }
+{
     if is_tied(role) {
         let key = UseKey {
             at: instr.id,
@@ -304,10 +318,10 @@ fn key_of(
         return (key, RematConstraint::Never);
     }
     let indexed_class = naming_of(view, role, op);
-    let wish = match indexed_class.index {
-        None => RematConstraint::Class(indexed_class.class),
-        Some(_) => RematConstraint::Never,
-    };
+    let wish = if_whole(
+        indexed_class.index,
+        RematConstraint::Class(indexed_class.class),
+    );
     let key = UseKey {
         at,
         indexed_class: Some(indexed_class),

@@ -2,11 +2,13 @@
 
 ghost use Rattle.std.specs.Prelude.{◌≡◌, cond, Some, None, option_and_then};
 ghost use Rattle.mir_func.specs.Binding.{as_register, operand_class};
+ghost use Rattle.mir_meaning.specs.Places.{same_class};
 ghost use Rattle.mir_meaning.specs.Points.{is_range};
+ghost use Rattle.spiller.specs.Views.{same_way};
 
 use crate::plan::SpillView;
 use mir_func::opcodes::asked_class;
-use mir_func::operands::class_of;
+use mir_func::operands::{class_of, same_index};
 use mir_func::{Func, Loc, Operand, RegOp};
 use target_base::{ClassId, IndexId, Role, Target};
 
@@ -17,6 +19,24 @@ pub(crate) struct IndexedClass {
     pub index: Option<IndexId>,
     /// The operand class; none where it has none.
     pub class: Option<ClassId>,
+}
+
+/// Whether the classes are one, or both are absent.
+fn same_class(a: Option<ClassId>, b: Option<ClassId>) -> bool
+    ensures { result ≡ same_class a b }
+{
+    match (a, b) {
+        (None, None) => true,
+        (Some(c), Some(d)) => c.0 == d.0,
+        _ => false,
+    }
+}
+
+/// Whether two uses name the range alike.
+pub(crate) fn same_naming(a: IndexedClass, b: IndexedClass) -> bool
+    ensures { result ≡ same_way a b }
+{
+    same_index(a.index, b.index) && same_class(a.class, b.class)
 }
 
 /// The register operand, where it is the range.

@@ -1,9 +1,13 @@
 //! The tinies of a place: one for each way of reading the range, and one for each definition of it.
 
+ghost use Rattle.std.specs.Prelude.{◌≡◌, ℕ, ◌&&◌, nat_eq, find, option_map};
+ghost use Rattle.spiller.specs.Spilled.{as_tiny};
+ghost use Rattle.spiller.specs.Views.{same_way, ways_of, tiny_of_way};
+
 use crate::kinds::spill_op;
 use crate::plan::{Plan, SpillView, op_of, slot_operands};
 use crate::remat::{Remat, UseKey};
-use crate::roles::{IndexedClass, naming_of, operand_of_range};
+use crate::roles::{IndexedClass, naming_of, operand_of_range, same_naming};
 use mir_func::opcodes::{is_tied, next_role, roles_of, tied_number, ties_to};
 use mir_func::{Instr, Operand, Operands, RegOp};
 use phi_elim::moves::{whole_definition, whole_use};
@@ -37,6 +41,40 @@ struct PlaceTinies {
     last: u32,
     reads: Vec<ReadTiny>,
     definitions: Vec<DefinedTiny>,
+}
+
+/// The first tiny of this way of reading.
+fn find_way(reads: &[ReadTiny], indexed_class: IndexedClass) -> Option<ReadTiny>
+    ensures { result ≡ find (λ x. same_way indexed_class x.indexed_class) reads.now }
+{
+    reads
+        .iter()
+        .copied()
+        .find(|tiny| same_naming(indexed_class, tiny.indexed_class))
+}
+
+/// The first tiny of the instruction's definition of this number.
+fn find_defined(definitions: &[DefinedTiny], by: u32, number: usize) -> Option<DefinedTiny>
+    ensures { result ≡ find (λ x. nat_eq x.by by && nat_eq x.number number) definitions.now }
+{
+    definitions
+        .iter()
+        .copied()
+        .find(|tiny| tiny.by == by && tiny.number == number)
+}
+
+/// A tiny, defined or used as the operand is.
+fn as_tiny(op: RegOp, range: u32) -> RegOp
+    ensures { result ≡ as_tiny op range }
+{
+    if op.def {
+        whole_definition(range)
+    } else {
+        RegOp {
+            undef: op.undef,
+            ..whole_use(range)
+        }
+    }
 }
 
 /// Changes the place of one instruction.
@@ -206,21 +244,23 @@ impl PlaceTinies {
     }
 
     /// The tiny of a way of reading.
-    fn tiny_read(&self, indexed_class: IndexedClass) -> Option<u32> {
-        let found = self
-            .reads
-            .iter()
-            .find(|tiny| tiny.indexed_class == indexed_class)?;
-        Some(found.range)
+    fn tiny_read(&self, indexed_class: IndexedClass) -> Option<u32>
+        ensures { (v : ℕ) → result ≡ tiny_of_way v indexed_class (ways_of v self.now.reads.items) }
+    {
+        match find_way(self.reads.as_slice(), indexed_class) {
+            None => None,
+            Some(tiny) => Some(tiny.range),
+        }
     }
 
     /// The tiny of an instruction's definition, where this is one of the range.
-    fn tiny_defined(&self, by: u32, number: usize) -> Option<u32> {
-        let found = self
-            .definitions
-            .iter()
-            .find(|tiny| tiny.by == by && tiny.number == number)?;
-        Some(found.range)
+    fn tiny_defined(&self, by: u32, number: usize) -> Option<u32>
+        ensures { result ≡ option_map (λ x. x.range) (find (λ x. nat_eq x.by by && nat_eq x.number number) self.now.definitions.items) }
+    {
+        match find_defined(self.definitions.as_slice(), by, number) {
+            None => None,
+            Some(tiny) => Some(tiny.range),
+        }
     }
 
     /// The tiny of a use.
@@ -285,11 +325,7 @@ impl PlaceTinies {
             self.tiny_used(view, by, role, &op)
         };
         match tiny {
-            Some(range) if op.def => whole_definition(range),
-            Some(range) => RegOp {
-                undef: op.undef,
-                ..whole_use(range)
-            },
+            Some(range) => as_tiny(op, range),
             None => op,
         }
     }
