@@ -1,11 +1,14 @@
 //! How each kind of place changes when its range is spilled.
 
-ghost use Rattle.std.specs.Prelude.{◌≡◌, ℕ, None};
+ghost use Rattle.std.specs.Prelude.{◌≡◌, ℕ, true, None, List, [], ◌∷◌, length};
+ghost use Rattle.mir_func.specs.declared.func.Operand.TheVariants as operands;
+ghost use Rattle.mir_meaning.specs.Points.{is_range};
+ghost use Rattle.spiller.specs.Spilled.{is_own_part};
 ghost use Rattle.target_base.specs.Registers.{lanes_of};
 ghost use Rattle.target_base.specs.Storage.{same_numbers};
-ghost use Rattle.mir_meaning.specs.Registers.{numbers};
+ghost use Rattle.mir_meaning.specs.Registers.{numbers, slot_lane_numbers};
 ghost use Rattle.spiller.specs.Reaching.{Facts};
-ghost use Rattle.spiller.specs.Setting.{class_beside, moving_class, part_class, own_lanes};
+ghost use Rattle.spiller.specs.Setting.{class_beside, moving_class, part_class, own_lanes, lanes_named};
 ghost use Rattle.spiller.specs.Views.{spilling_of};
 
 use crate::kinds::{reload_op, spill_op};
@@ -210,23 +213,32 @@ fn slot_sides(instr: &Instr) -> Option<(RegOp, SlotPart)> {
 }
 
 /// Whether these lanes of a slot are those of the range's own slot that stand for the operand.
-fn is_own_slot(view: SpillView<'_>, plan: &Plan, register: &RegOp, part: SlotPart) -> bool {
-    if part.slot != plan.slot {
-        return false;
-    }
-    match part.index {
-        Some(_) => have_same_lanes(view, part.index, register.index),
-        None => match register.index {
+fn is_own_slot(view: SpillView<'_>, plan: &Plan, register: &RegOp, part: SlotPart) -> bool
+    ensures { (facts : Facts) → is_range view.entry.v register.now.loc ≡ true → result ≡ is_own_part (spilling_of view.entry plan.now.slot facts) register.now (operands.Stack part.slot ∷ lanes_named part.index ∷ []) }
+{
+    part.slot == plan.slot && name_own_lanes(view, register.index, part.index)
+}
+
+/// Whether a store or a reload of as many lanes as an index picks of the range names, in the range's
+/// slot, just these lanes.
+fn name_own_lanes(view: SpillView<'_>, own: Option<IndexId>, named: Option<IndexId>) -> bool
+    ensures { (slot : ℕ) (facts : Facts) (widths : List ℕ) → length widths ≡ length (own_lanes (spilling_of view.entry slot facts) own) → result ≡ same_numbers (slot_lane_numbers view.entry.target.now widths (lanes_named named)) (own_lanes (spilling_of view.entry slot facts) own) }
+{
+    match named {
+        Some(_) => have_same_lanes(view, named, own),
+        None => match own {
             None => true,
-            Some(index) => is_first_lanes(view, index),
+            Some(index) => picks_first_lanes(view.target, index),
         },
     }
 }
 
 /// Whether an index picks the first lanes in order.
-fn is_first_lanes(view: SpillView<'_>, index: IndexId) -> bool {
-    let lanes = view.target.lanes_at(index);
-    (0u8..u8::MAX).zip(lanes).all(|(k, lane)| k == *lane)
+fn picks_first_lanes(target: &Target, index: IndexId) -> bool
+    ensures { result ≡ same_numbers (numbers 0 (length (lanes_of target.now index))) (lanes_of target.now index) }
+{
+    let lanes = target.lanes_at(index);
+    are_first_lanes(lanes, lanes.len())
 }
 
 /// A store or a reload of the range.
