@@ -1,6 +1,6 @@
 -- The first of the registers that pass a test is the one that a search for it finds.
 use Rattle.std.proofs.Common.{◌≡◌, ◌∙◌, Bool, true, false, cond, List, [], ◌∷◌, refl, sym, ap}
-use Rattle.std.specs.Prelude.{Option, Some, None, unwrap_or, find, filter}
+use Rattle.std.specs.Prelude.{Option, Some, unwrap_or, find, filter}
 use Rattle.target_base.specs.declared.types.Reg.{Reg}
 use Rattle.target_base.specs.declared.types.ClassId.{ClassId}
 use Rattle.target_base.specs.declared.types.Target.{Target}

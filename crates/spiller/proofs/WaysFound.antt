@@ -1,7 +1,7 @@
 -- A way of reading that a search finds among the tinies of a place is the one that the definition finds.
-use Rattle.std.proofs.Common.{◌≡◌, ◌∙◌, ℕ, Bool, true, false, cond, List, [], ◌∷◌, refl, sym, ap}
+use Rattle.std.proofs.Common.{◌≡◌, ℕ, Bool, true, false, cond, List, [], ◌∷◌, refl, ap}
 use Rattle.std.proofs.lemmas.Bool.{eq-eqb}
-use Rattle.std.specs.Prelude.{◌&&◌, nat_eq, Option, Some, None, option_map, find}
+use Rattle.std.specs.Prelude.{◌&&◌, Some, option_map, find}
 use Rattle.mir_func.specs.Binding.{same_index}
 use Rattle.mir_meaning.specs.Places.{Variable, same_class, same_use}
 use Rattle.spiller.specs.declared.seats.ReadTiny.{ReadTiny}
