@@ -1,5 +1,5 @@
 -- What the code looks at while it plans a spill, and the plan, as the definition's words name them.
-use Rattle.std.specs.Prelude.{ℕ, Bool, false, ◌&&◌, length, ◌+◌, ◌-◌, ◌^◌, List, [], ◌∷◌, ◌++◌, Option, option_map, find, map, min}
+use Rattle.std.specs.Prelude.{ℕ, Bool, false, ◌&&◌, length, ◌+◌, ◌-◌, ◌^◌, List, [], ◌∷◌, ◌++◌, Option, Some, None, slice_get, slice_index, option_map, find, map, min}
 use Rattle.target_base.specs.declared.types.ClassId.{ClassId}
 use Rattle.target_base.specs.declared.types.OpId.{OpId}
 use Rattle.mir_func.specs.Value.{Function}
@@ -38,6 +38,14 @@ ways_of v xs = map (λ x. (x.range, way_of v x.indexed_class)) xs
 -- the tiny of a way of reading
 abbrev pub tiny_of_way : ℕ → IndexedClass → List (ℕ × Variable) → Option ℕ
 tiny_of_way v x ways = option_map (λ p. p.0) (find (λ p. same_use (way_of v x) p.1) ways)
+
+-- the number of the block of an instruction, by its id
+abbrev pub block_number : SpillView → ℕ → ℕ
+block_number view id = elim (slice_get view.live.now.func.blocks (slice_index view.live.now.table.order.block_of.items id)) [ None ↦ 0 | Some b ↦ b.number ]
+
+-- the gap right before an instruction
+abbrev pub gap_before : SpillView → ℕ → Gap
+gap_before view id = record { block = block_number view id; before = Some id }
 
 -- what a reading asks
 abbrev pub wish_of : RematConstraint → Wish

@@ -1,6 +1,6 @@
 //! The edits that spill a range, gathered before any of them is done.
 
-ghost use Rattle.std.specs.Prelude.{◌≡◌, IfOk, OnOk, true, [], ◌∷◌, ◌++◌, ◌<◌, ◌^◌, drop, length};
+ghost use Rattle.std.specs.Prelude.{◌≡◌, IfOk, OnOk, true, [], ◌∷◌, ◌++◌, ◌<◌, ◌^◌, drop, length, option_and_then};
 ghost use Rattle.target_base.specs.declared.types.OpId.{OpId};
 ghost use Rattle.mir_func.specs.declared.func.Op.TheVariants as ops;
 ghost use Rattle.mir_func.specs.declared.func.Operand.TheVariants as operands;
@@ -8,8 +8,9 @@ ghost use Rattle.mir_func.specs.Binding.{class_of};
 ghost use Rattle.mir_meaning.specs.Points.{is_range};
 ghost use Rattle.mir_meaning.specs.Registers.{range_widths};
 ghost use Rattle.live_edits.specs.declared.edit.Edit.TheVariants as edits;
-ghost use Rattle.spiller.specs.Views.{planned, no_plan, with_put, with_edit, with_tiny};
-ghost use Rattle.spiller.specs.Setting.{plain_use, plain_definition, undef_use, lanes_named};
+ghost use Rattle.spiller.specs.Views.{block_number, gap_before, planned, no_plan, with_put, with_edit, with_tiny};
+ghost use Rattle.spiller.specs.Setting.{plain_use, plain_definition, undef_use, lanes_named, opcode};
+ghost use Rattle.target_base.specs.Registers.{reload_place};
 
 use crate::kinds::{first_unreserved, reload_op};
 use interference::{Tinies, Tiny};
@@ -102,7 +103,9 @@ impl Plan {
         class: Option<ClassId>,
         register: RegOp,
         from: SlotPart,
-    ) -> Result<(), AllocError> {
+    ) -> Result<(), AllocError>
+        ensures { OnOk result (planned self.new ≡ with_put (gap_before view.entry at) (opcode (option_and_then (reload_place view.entry.target.now) class)) (operands.Reg register ∷ operands.Stack from.slot ∷ lanes_named from.index ∷ []) (planned self.old)) }
+    {
         let operands = slot_operands(view.alloc, register, from)?;
         self.put(view.gap_before(at), reload_op(view.target, class), operands)
     }
@@ -261,7 +264,9 @@ fn push_all(alloc: Global, operands: &mut Operands, others: &[Operand]) -> Resul
 
 impl<'a> SpillView<'a> {
     /// The number of the block of an instruction.
-    pub fn block_number(&self, id: u32) -> u32 {
+    pub fn block_number(&self, id: u32) -> u32
+        ensures { result ≡ block_number self.now id }
+    {
         let position = self.live.position_of(id) as usize;
         match self.live.func().blocks.as_slice().get(position) {
             Some(block) => block.number,
@@ -270,7 +275,9 @@ impl<'a> SpillView<'a> {
     }
 
     /// The gap right before an instruction.
-    pub fn gap_before(&self, id: u32) -> Gap {
+    pub fn gap_before(&self, id: u32) -> Gap
+        ensures { result ≡ gap_before self.now id }
+    {
         Gap {
             block: self.block_number(id),
             before: Some(id),
