@@ -1,9 +1,12 @@
 -- What the code looks at while it plans a spill, and the plan, as the definition's words name them.
-use Rattle.std.specs.Prelude.{ℕ, Bool, false, ◌&&◌, length, ◌+◌, ◌-◌, ◌^◌, List, [], ◌∷◌, ◌++◌, Option, Some, None, slice_get, slice_index, option_map, find, map, min}
+use Rattle.std.specs.Prelude.{ℕ, Bool, false, ◌&&◌, length, ◌+◌, ◌-◌, ◌^◌, List, [], ◌∷◌, ◌++◌, Option, Some, None, slice_get, slice_index, nat_eq, option_map, find, map, min}
 use Rattle.target_base.specs.declared.types.ClassId.{ClassId}
 use Rattle.target_base.specs.declared.types.OpId.{OpId}
 use Rattle.mir_func.specs.Value.{Function}
-use Rattle.mir_func.specs.Binding.{same_index}
+use Rattle.mir_func.specs.Binding.{same_index, operand_class}
+use Rattle.mir_func.specs.declared.func.RegOp.{RegOp}
+use Rattle.target_base.specs.declared.types.Role.{Role}
+use Rattle.spiller.specs.declared.seats.DefinedTiny.{DefinedTiny}
 use Rattle.mir_func.specs.declared.func.Gap.{Gap}
 use Rattle.mir_func.specs.declared.func.Operand.{Operand}
 use Rattle.mir_meaning.specs.Places.{Variable, Using, variable, same_class, same_use}
@@ -23,6 +26,10 @@ use Rattle.spiller.specs.Rematerialised.{Wish, Never, Within, Holding}
 abbrev pub spilling_of : SpillView → ℕ → Facts → Spilling
 spilling_of view slot facts = record { target = view.target.now; func = view.live.now.func; range = view.v; slot = slot; facts = facts }
 
+-- how an operand with its role names the range
+abbrev pub named_by : SpillView → Option Role → RegOp → IndexedClass
+named_by view r o = record { index = o.index; class = operand_class view.target.now view.live.now.func r o }
+
 -- a use that names the range so
 abbrev pub way_of : ℕ → IndexedClass → Variable
 way_of v x = variable Using v x.index x.class
@@ -34,6 +41,10 @@ same_way a b = same_index a.index b.index && same_class a.class b.class
 -- ways of reading, each with its tiny
 abbrev pub ways_of : ℕ → List ReadTiny → List (ℕ × Variable)
 ways_of v xs = map (λ x. (x.range, way_of v x.indexed_class)) xs
+
+-- the tiny of the definition of that number by an instruction, by its id
+abbrev pub tiny_by_number : List DefinedTiny → ℕ → ℕ → Option ℕ
+tiny_by_number xs by n = option_map (λ x. x.range) (find (λ x. nat_eq x.by by && nat_eq x.number n) xs)
 
 -- the tiny of a way of reading
 abbrev pub tiny_of_way : ℕ → IndexedClass → List (ℕ × Variable) → Option ℕ

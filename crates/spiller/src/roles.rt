@@ -4,7 +4,7 @@ ghost use Rattle.std.specs.Prelude.{◌≡◌, cond, Some, None, option_and_then
 ghost use Rattle.mir_func.specs.Binding.{as_register, operand_class};
 ghost use Rattle.mir_meaning.specs.Places.{same_class};
 ghost use Rattle.mir_meaning.specs.Points.{is_range};
-ghost use Rattle.spiller.specs.Views.{same_way};
+ghost use Rattle.spiller.specs.Views.{same_way, named_by};
 
 use crate::plan::SpillView;
 use mir_func::opcodes::asked_class;
@@ -51,8 +51,7 @@ pub(crate) fn operand_of_range(view: SpillView<'_>, operand: &Operand) -> Option
 
 /// How an operand with its role names the range.
 pub(crate) fn naming_of(view: SpillView<'_>, role: Option<Role>, op: &RegOp) -> IndexedClass
-    ensures index { result.index ≡ op.now.index }
-    ensures class { result.class ≡ operand_class view.entry.target.now view.entry.live.now.func role op.now }
+    ensures { result ≡ named_by view.entry role op.now }
 {
     IndexedClass {
         index: op.index,

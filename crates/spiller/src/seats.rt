@@ -1,8 +1,9 @@
 //! The tinies of a place: one for each way of reading the range, and one for each definition of it.
 
-ghost use Rattle.std.specs.Prelude.{◌≡◌, ℕ, ◌&&◌, nat_eq, find, option_map};
+ghost use Rattle.std.specs.Prelude.{◌≡◌, ℕ, true, false, ◌&&◌, nat_eq, find, Some, None, option_map, option_and_then};
+ghost use Rattle.mir_func.specs.Binding.{tied_number};
 ghost use Rattle.spiller.specs.Spilled.{as_tiny};
-ghost use Rattle.spiller.specs.Views.{same_way, ways_of, tiny_of_way};
+ghost use Rattle.spiller.specs.Views.{same_way, named_by, ways_of, tiny_of_way, tiny_by_number};
 
 use crate::kinds::spill_op;
 use crate::plan::{Plan, SpillView, op_of, slot_operands};
@@ -255,7 +256,7 @@ impl PlaceTinies {
 
     /// The tiny of an instruction's definition, where this is one of the range.
     fn tiny_defined(&self, by: u32, number: usize) -> Option<u32>
-        ensures { result ≡ option_map (λ x. x.range) (find (λ x. nat_eq x.by by && nat_eq x.number number) self.now.definitions.items) }
+        ensures { result ≡ tiny_by_number self.now.definitions.items by number }
     {
         match find_defined(self.definitions.as_slice(), by, number) {
             None => None,
@@ -264,17 +265,19 @@ impl PlaceTinies {
     }
 
     /// The tiny of a use.
-    fn tiny_used(
-        &self,
-        view: SpillView<'_>,
-        by: u32,
-        role: Option<Role>,
-        op: &RegOp,
-    ) -> Option<u32> {
+    fn tiny_used(&self, view: SpillView<'_>, by: u32, role: Option<Role>, op: &RegOp) -> Option<u32>
+        ensures tied { (n : ℕ) → option_and_then tied_number role ≡ Some n → result ≡ tiny_by_number self.now.definitions.items by n }
+        ensures undefined { option_and_then tied_number role ≡ None → op.now.undef ≡ true → result ≡ None }
+        ensures read { option_and_then tied_number role ≡ None → op.now.undef ≡ false → result ≡ tiny_of_way view.entry.v (named_by view.entry role op.now) (ways_of view.entry.v self.now.reads.items) }
+    {
         match tied_number(role) {
             Some(number) => self.tiny_defined(by, number),
-            None if op.undef => None,
-            None => self.tiny_read(naming_of(view, role, op)),
+            None => {
+                if op.undef {
+                    return None;
+                }
+                self.tiny_read(naming_of(view, role, op))
+            }
         }
     }
 
