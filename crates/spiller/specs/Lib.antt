@@ -5,4 +5,6 @@ pub mod Reaching
 pub mod Setting
 pub mod Rematerialised
 pub mod Spilled
+pub mod MaySpill
 pub mod Views
+pub mod Planned
