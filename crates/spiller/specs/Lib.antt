@@ -8,3 +8,8 @@ pub mod Spilled
 pub mod MaySpill
 pub mod Views
 pub mod Planned
+pub mod Additions
+pub mod Seating
+pub mod Readings
+pub mod Moving
+pub mod Placing

@@ -1,16 +1,17 @@
 //! Which readings of a range are rematerialised: the instruction that defines it is repeated in
 //! place of a reload.
 
-ghost use Rattle.std.specs.Prelude.{◌≡◌, cond};
+ghost use Rattle.std.specs.Prelude.{◌≡◌, ◌&&◌, cond, find, nat_eq};
 ghost use Rattle.target_base.specs.Roles.{is_tied};
 ghost use Rattle.target_base.specs.Storage.{is_within};
 ghost use Rattle.mir_func.specs.Binding.{does, passes, operand_class};
 ghost use Rattle.spiller.specs.Rematerialised.{is_constant, definition_class, whole_class, repeatable_class, serves, if_whole, copy_wish, Never, Within};
+ghost use Rattle.spiller.specs.Readings.{source_in, goes_in, same_ways};
 ghost use Rattle.spiller.specs.Views.{wish_of};
 
 use crate::plan::SpillView;
 use crate::reaching::{BlockTouches, RangeTouch, ReadLanes, reach_at_starts, readings_reached};
-use crate::roles::{IndexedClass, naming_of, operand_of_range};
+use crate::roles::{IndexedClass, naming_of, operand_of_range, same_naming};
 use mir_func::opcodes::{effect_of, is_terminator, is_tied, next_role, roles_of};
 use mir_func::operands::register_at;
 use mir_func::{Instr, Loc, Operand, RegOp};
@@ -51,6 +52,26 @@ struct RematUse {
     is_good: bool,
 }
 
+/// Whether the ways of reading are the same, or both are absent.
+fn same_ways(a: Option<IndexedClass>, b: Option<IndexedClass>) -> bool
+    ensures { result ≡ same_ways a b }
+{
+    match (a, b) {
+        (None, None) => true,
+        (Some(a), Some(b)) => same_naming(a, b),
+        _ => false,
+    }
+}
+
+/// The first reading of this key that is rematerialised.
+fn find_reading(readings: &[RematUse], key: UseKey) -> Option<RematUse>
+    ensures { result ≡ find (λ u. nat_eq u.key.at key.at && (same_ways u.key.indexed_class key.indexed_class && u.is_good)) readings.now }
+{
+    readings.iter().copied().find(|u| {
+        u.key.at == key.at && (same_ways(u.key.indexed_class, key.indexed_class) && u.is_good)
+    })
+}
+
 /// What is rematerialised.
 #[derive(Drop)]
 pub(crate) struct Remat {
@@ -61,26 +82,20 @@ pub(crate) struct Remat {
 
 impl Remat {
     /// The definition whose instruction is repeated for a reading.
-    pub fn source(&self, key: UseKey) -> Option<u32> {
-        let first = self
-            .readings
-            .as_slice()
-            .partition_point(|r| r.key.at < key.at);
-        'readings: for reading in self.readings.iter().skip(first) {
-            if reading.key.at != key.at {
-                return None;
-            }
-            if reading.key == key && reading.is_good {
-                return reading.def;
-            }
+    pub fn source(&self, key: UseKey) -> Option<u32>
+        ensures { result ≡ source_in self.now key }
+    {
+        match find_reading(self.readings.as_slice(), key) {
+            None => None,
+            Some(reading) => reading.def,
         }
-        None
     }
 
     /// Whether a definition goes.
-    pub fn is_deleted(&self, id: u32) -> bool {
-        let place = self.deleted.as_slice().partition_point(|other| *other < id);
-        self.deleted.get(place) == Some(&id)
+    pub fn is_deleted(&self, id: u32) -> bool
+        ensures { result ≡ goes_in self.now id }
+    {
+        self.deleted.iter().any(|other| id == *other)
     }
 }
 
