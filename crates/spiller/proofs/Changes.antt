@@ -7,6 +7,7 @@ use Rattle.std.proofs.lemmas.List.{append-nil, length-append, map-append}
 use Rattle.std.proofs.lemmas.List.Folds.{list_any-append}
 use Rattle.target_base.specs.declared.types.ClassId.{ClassId}
 use Rattle.target_base.specs.declared.types.IndexId.{IndexId}
+use Rattle.target_base.specs.declared.types.OpId.{OpId}
 use Rattle.mir_func.specs.declared.func.Gap.{Gap}
 use Rattle.mir_func.specs.declared.func.Loc.TheVariants.{Virtual}
 use Rattle.mir_func.specs.declared.func.RegOp.{RegOp}
@@ -21,7 +22,7 @@ use Rattle.spiller.specs.Views.{Planned}
 use Rattle.spiller.specs.Planned.{change_edits, known_op, names_own, names_own_slot, names_slot_anew, own_edits, put_all, uses_own_slot, with_change}
 use Rattle.spiller.specs.Additions.{Addition, both, edited, put_into, ranges_made, slot_named, with_addition}
 use Rattle.spiller.specs.Moving.{moved_through}
-use Rattle.spiller.proofs.Added.{addition-is, or-more, or-true}
+use Rattle.spiller.proofs.Added.{addition-is, or-more, or-true, then-added}
 
 -- a change by its parts
 pub changed : (s : Spilling) (before behind : Gap) (is : List Instr) (x : Change) (p : Planned) (a : Addition) → change_edits s before behind is x ≡ a.edits → x.tinies ≡ a.tinies → uses_own_slot s is x ≡ a.uses_slot → new_ids x ≡ a.new → with_change s before behind is x p ≡ with_addition a p
@@ -108,3 +109,15 @@ assembled s before behind is own p ks js gs ts ss es e n =
   where
     put : Instr → Edit
     put x = edits.Put before (known_op x.op) x.operands
+
+-- by the steps of a plan
+
+pub replaced-by : (s : Spilling) (before behind : Gap) (i x : Instr) (op : OpId) (os : List Operand) (p q r : Planned) → names_own s i ≡ true → names_own_slot s i ≡ false → names_own_slot s x ≡ true → q ≡ with_addition slot_named p → op ≡ known_op x.op → os ≡ x.operands → r ≡ with_addition (edited (edits.Replace i.id op os ∷ [])) q → r ≡ with_change s before behind (i ∷ []) (becomes (x ∷ [])) p
+replaced-by s before behind i x op os p q r own none slot a b c d =
+    then-added slot_named (edited (edits.Replace i.id (known_op x.op) x.operands ∷ [])) p q r a (d ∙ (λ k. with_addition (edited (edits.Replace i.id (b k) (c k) ∷ [])) q))
+    ∙ sym (replaced s before behind i x p own none slot)
+
+pub put-erased-by : (s u : Spilling) (before behind : Gap) (i x : Instr) (p q r : Planned) → put_into u before (x ∷ []) ≡ put_into s before (x ∷ []) → q ≡ with_addition (put_into u before (x ∷ [])) p → r ≡ with_addition (edited (edits.Erase i.id ∷ [])) q → r ≡ with_change s before behind (i ∷ []) (record (becomes []) { before = x ∷ [] }) p
+put-erased-by s u before behind i x p q r same a b =
+    then-added (put_into s before (x ∷ [])) (edited (edits.Erase i.id ∷ [])) p q r (a ∙ ap (λ z. with_addition z p) same) b
+    ∙ sym (put-erased s before behind i x p)

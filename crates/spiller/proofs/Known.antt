@@ -60,7 +60,7 @@ module _ (s : Spilling) (P : Instr → Type 0) where
   one-defined : (i : Instr) → P i → (n k : ℕ) (rs : List Role) (os : List Operand) → ((j : ℕ) → slice_get os j ≡ slice_get i.operands (k + j)) → (rest : List OwnDefinition) → ((m : ℕ) → AllByRecursion (IsDefinedIn P) (numbered m rest))
       → AllByRecursion (IsDefinedIn P) (numbered n (filter_map (own_definition s i) (numbered k (explicit_bound rs os)) ++ rest))
   one-defined i h n k rs [] at rest more = subst (λ bs. AllByRecursion (IsDefinedIn P) (numbered n (filter_map (own_definition s i) (numbered k bs) ++ rest))) (sym (bound_none rs)) (more n)
-  one-defined i h n k rs (o ∷ os) at rest more = subst (λ bs. AllByRecursion (IsDefinedIn P) (numbered n (filter_map (own_definition s i) (numbered k bs) ++ rest))) (sym (bound_step rs o os)) (by o (here (at 0)))
+  one-defined i h n k rs (o ∷ os) at rest more = subst (λ bs. AllByRecursion (IsDefinedIn P) (numbered n (filter_map (own_definition s i) (numbered k bs) ++ rest))) (sym (bound_step rs o os)) (by o (here (at 0)) (λ m. one-defined i h m (suc k) (after_first rs) os next rest more))
     where
       here : slice_get (o ∷ os) 0 ≡ slice_get i.operands (k + 0) → Some o ≡ slice_get i.operands k
       here e = let z : k + 0 ≡ k = omega arith in e ∙ ap (slice_get i.operands) z
@@ -68,16 +68,13 @@ module _ (s : Spilling) (P : Instr → Type 0) where
       next : (j : ℕ) → slice_get os j ≡ slice_get i.operands (suc k + j)
       next j = let z : k + suc j ≡ suc k + j = omega arith in at (suc j) ∙ ap (slice_get i.operands) z
 
-      tail : (m : ℕ) → AllByRecursion (IsDefinedIn P) (numbered m (filter_map (own_definition s i) (numbered (suc k) (explicit_bound (after_first rs) os)) ++ rest))
-      tail m = one-defined i h m (suc k) (after_first rs) os next rest more
+      one : (r : RegOp) (b : Bool) → Some (operands.Reg r) ≡ slice_get i.operands k → ((m : ℕ) → AllByRecursion (IsDefinedIn P) (numbered m (filter_map (own_definition s i) (numbered (suc k) (explicit_bound (after_first rs) os)) ++ rest))) → AllByRecursion (IsDefinedIn P) (numbered n (cons_option (cond b (Some (record { by = i; number = k; index = r.index; class = operand_class s.target s.func (first_role rs) r })) None) (filter_map (own_definition s i) (numbered (suc k) (explicit_bound (after_first rs) os))) ++ rest))
+      one r true e tail = ((h, r, ap (option_and_then as_register) (sym e)), tail (suc n))
+      one r false e tail = tail n
 
-      by : (x : Operand) → Some x ≡ slice_get i.operands k → AllByRecursion (IsDefinedIn P) (numbered n (filter_map (own_definition s i) ((k, (first_role rs, x)) ∷ numbered (suc k) (explicit_bound (after_first rs) os)) ++ rest))
-      by (operands.Reg r) e = go (is_own s r && r.def)
-        where
-          go : (b : Bool) → AllByRecursion (IsDefinedIn P) (numbered n (cons_option (cond b (Some (record { by = i; number = k; index = r.index; class = operand_class s.target s.func (first_role rs) r })) None) (filter_map (own_definition s i) (numbered (suc k) (explicit_bound (after_first rs) os))) ++ rest))
-          go true = ((h, r, ap (option_and_then as_register) (sym e)), tail (suc n))
-          go false = tail n
-      by x e = tail n
+      by : (x : Operand) → Some x ≡ slice_get i.operands k → ((m : ℕ) → AllByRecursion (IsDefinedIn P) (numbered m (filter_map (own_definition s i) (numbered (suc k) (explicit_bound (after_first rs) os)) ++ rest))) → AllByRecursion (IsDefinedIn P) (numbered n (filter_map (own_definition s i) ((k, (first_role rs, x)) ∷ numbered (suc k) (explicit_bound (after_first rs) os)) ++ rest))
+      by (operands.Reg r) e tail = one r (is_own s r && r.def) e tail
+      by x e tail = tail n
 
   pub all-defined : (n : ℕ) (is : List Instr) → AllByRecursion P is → AllByRecursion (IsDefinedIn P) (numbered n (definitions_in s is))
   all-defined n [] h = tt
@@ -95,12 +92,12 @@ tells-live t f x v facts i p j are inside at k = same_answer (facts.live_behind 
 
 -- an instruction that is repeated is one of the function's
 
+place-of : {X : Type 0} (x : X) (xs : List X) → Member x xs → (k : ℕ) × (slice_get xs k ≡ Some x)
+place-of x [] m = absurd (member-none x m)
+place-of {X = X} x (y ∷ xs) m = member-elim x y xs (λ e. (0, ap Some (sym e))) (λ k. let z = place-of x xs k in (suc z.0, z.1)) m
+
 pub there-of : (f : Function) (d : Instr) → Member d (flat_map (λ b. b.instrs) f.blocks) → IsThere f d
 there-of f d m = let z = flat-of (λ (b : Block). b.instrs) d f.blocks m in let p = place-of z.0 f.blocks z.1 in let j = place-of d z.0.instrs z.2 in (p.0, j.0, z.0, p.1, j.1)
-  where
-    place-of : {X : Type 0} (x : X) (xs : List X) → Member x xs → (k : ℕ) × (slice_get xs k ≡ Some x)
-    place-of x [] m = absurd (member-none x m)
-    place-of {X = X} x (y ∷ xs) m = member-elim x y xs (λ e. (0, ap Some (sym e))) (λ k. let z = place-of x xs k in (suc z.0, z.1)) m
 
 serving : (t : Target) (wish : Wish) (ds : List Instr) (d : Instr) → if_serves t wish ds ≡ Some d → Member d ds
 serving t wish [] d e = absurd (cc)

@@ -16,3 +16,6 @@ pub mod Behind
 pub mod Changes
 pub mod Known
 pub mod PlacePlanned
+pub mod Steps
+pub mod Singles
+pub mod Terminators

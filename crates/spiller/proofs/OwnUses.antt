@@ -52,31 +52,29 @@ defining-other w v h d = ap (λ b. b && nat_eq w.range v.range && same_index w.i
 -- uses once each are the uses of all variables once each
 pub uses-once : (seen other vs : List Variable) → ((v : Variable) → is_plain v ≡ true → list_any (same_use v) seen ≡ list_any (same_use v) other) → filter is_plain (each_once seen vs) ≡ each_once other (filter is_plain vs)
 uses-once seen other [] e = refl
-uses-once seen other (v ∷ vs) e = go (is_defining v.kind) refl
+uses-once seen other (v ∷ vs) e = go (is_defining v.kind) refl (λ a b g. uses-once a b vs g)
   where
-    Goal : Bool → Bool → Type 0
-    Goal b d = filter is_plain (cond b (each_once seen vs) (v ∷ each_once (v ∷ seen) vs)) ≡ each_once other (cond (not d) (v ∷ filter is_plain vs) (filter is_plain vs))
-
-    defined : is_defining v.kind ≡ true → Goal false true
-    defined d =
+    defined : is_defining v.kind ≡ true → ((a b : List Variable) → ((w : Variable) → is_plain w ≡ true → list_any (same_use w) a ≡ list_any (same_use w) b) → filter is_plain (each_once a vs) ≡ each_once b (filter is_plain vs)) → filter is_plain (v ∷ each_once (v ∷ seen) vs) ≡ each_once other (filter is_plain vs)
+    defined d ih =
         ap (λ b. cond (not b) (v ∷ filter is_plain (each_once (v ∷ seen) vs)) (filter is_plain (each_once (v ∷ seen) vs))) d
-        ∙ uses-once (v ∷ seen) other vs (λ w h. ap (λ b. b || list_any (same_use w) seen) (defining-other w v h d) ∙ e w h)
+        ∙ ih (v ∷ seen) other (λ w h. ap (λ b. b || list_any (same_use w) seen) (defining-other w v h d) ∙ e w h)
 
-    used : (b : Bool) → is_defining v.kind ≡ false → list_any (same_use v) other ≡ b → Goal b false
-    used true d h = uses-once seen other vs e ∙ sym (ap (λ b. cond b (each_once other (filter is_plain vs)) (v ∷ each_once (v ∷ other) (filter is_plain vs))) h)
-    used false d h =
+    used : (b : Bool) → is_defining v.kind ≡ false → list_any (same_use v) other ≡ b → ((a b : List Variable) → ((w : Variable) → is_plain w ≡ true → list_any (same_use w) a ≡ list_any (same_use w) b) → filter is_plain (each_once a vs) ≡ each_once b (filter is_plain vs)) → filter is_plain (cond b (each_once seen vs) (v ∷ each_once (v ∷ seen) vs)) ≡ each_once other (v ∷ filter is_plain vs)
+    used true d h ih = ih seen other e ∙ sym (ap (λ b. cond b (each_once other (filter is_plain vs)) (v ∷ each_once (v ∷ other) (filter is_plain vs))) h)
+    used false d h ih =
         ap (λ b. cond (not b) (v ∷ filter is_plain (each_once (v ∷ seen) vs)) (filter is_plain (each_once (v ∷ seen) vs))) d
-        ∙ ap (λ zs. v ∷ zs) (uses-once (v ∷ seen) (v ∷ other) vs (λ w q. ap (λ b. same_use w v || b) (e w q)))
-        ∙ sym (ap (λ b. cond b (each_once other (filter is_plain vs)) (v ∷ each_once (v ∷ other) (filter is_plain vs))) h)
+        ∙ (ap (λ zs. v ∷ zs) (ih (v ∷ seen) (v ∷ other) (λ w q. ap (λ b. same_use w v || b) (e w q)))
+        ∙ sym (ap (λ b. cond b (each_once other (filter is_plain vs)) (v ∷ each_once (v ∷ other) (filter is_plain vs))) h))
 
-    go : (d : Bool) → is_defining v.kind ≡ d → filter is_plain (each_once seen (v ∷ vs)) ≡ each_once other (filter is_plain (v ∷ vs))
-    go true d =
+    go : (d : Bool) → is_defining v.kind ≡ d → ((a b : List Variable) → ((w : Variable) → is_plain w ≡ true → list_any (same_use w) a ≡ list_any (same_use w) b) → filter is_plain (each_once a vs) ≡ each_once b (filter is_plain vs)) → filter is_plain (each_once seen (v ∷ vs)) ≡ each_once other (filter is_plain (v ∷ vs))
+    go true d ih =
         ap (λ b. filter is_plain (cond b (each_once seen vs) (v ∷ each_once (v ∷ seen) vs))) (defining-none v seen d)
-        ∙ defined d
-        ∙ sym (ap (λ b. each_once other (cond (not b) (v ∷ filter is_plain vs) (filter is_plain vs))) d)
-    go false d =
-        used (list_any (same_use v) seen) d (sym (e v (ap not d)))
-        ∙ sym (ap (λ b. each_once other (cond (not b) (v ∷ filter is_plain vs) (filter is_plain vs))) d)
+        ∙ (defined d ih
+        ∙ sym (ap (λ b. each_once other (cond (not b) (v ∷ filter is_plain vs) (filter is_plain vs))) d))
+    go false d ih =
+        ap (λ b. filter is_plain (cond b (each_once seen vs) (v ∷ each_once (v ∷ seen) vs))) (e v (ap not d))
+        ∙ (used (list_any (same_use v) other) d refl ih
+        ∙ sym (ap (λ b. each_once other (cond (not b) (v ∷ filter is_plain vs) (filter is_plain vs))) d))
 
 -- operands with their roles
 
@@ -121,18 +119,18 @@ module _ {X : Type 0} (g : Bound → Option X) (skips : SkipsFixed g) where
   -- explicit operands alone, and all operands
   explicit-alone : (rs : List Role) (os : List Operand) → implicit_last os ≡ true → AreFixed os → filter_map g (explicit_bound rs (explicit_operands os)) ≡ filter_map g (explicit_bound rs os)
   explicit-alone rs [] last h = refl
-  explicit-alone rs (o ∷ os) last h = go (is_implicit_operand o) refl
+  explicit-alone rs (o ∷ os) last h = go (is_implicit_operand o) refl (λ more. explicit-alone (after_first rs) os more (fixed-behind o os h))
     where
-      go : (b : Bool) → is_implicit_operand o ≡ b → filter_map g (explicit_bound rs (explicit_operands (o ∷ os))) ≡ filter_map g (explicit_bound rs (o ∷ os))
-      go true i =
+      go : (b : Bool) → is_implicit_operand o ≡ b → (implicit_last os ≡ true → filter_map g (explicit_bound (after_first rs) (explicit_operands os)) ≡ filter_map g (explicit_bound (after_first rs) os)) → filter_map g (explicit_bound rs (explicit_operands (o ∷ os))) ≡ filter_map g (explicit_bound rs (o ∷ os))
+      go true i ih =
           let more : list_all is_implicit_operand os ≡ true = subst (λ b. cond b (list_all is_implicit_operand os) (implicit_last os) ≡ true) i last in
           let all : list_all is_implicit_operand (o ∷ os) ≡ true = λ k. i k && more k in
           ap (λ xs. filter_map g (explicit_bound rs xs)) (none-explicit (o ∷ os) all) ∙ (ap (filter_map g) (bound_none rs) ∙ sym (all-skipped rs (o ∷ os) all h))
-      go false i =
+      go false i ih =
           let more : implicit_last os ≡ true = subst (λ b. cond b (list_all is_implicit_operand os) (implicit_last os) ≡ true) i last in
           ap (λ b. filter_map g (explicit_bound rs (cond (not b) (o ∷ explicit_operands os) (explicit_operands os)))) i
           ∙ (ap (filter_map g) (bound_step rs o (explicit_operands os))
-          ∙ (ap (λ zs. cons_option (g (first_role rs, o)) zs) (explicit-alone (after_first rs) os more (fixed-behind o os h))
+          ∙ (ap (λ zs. cons_option (g (first_role rs, o)) zs) (ih more)
           ∙ sym (ap (filter_map g) (bound_step rs o os))))
 
   implicit-skipped : (rs : List Role) (os : List RegOp) → list_all (λ o. not (is_virtual o.loc)) os ≡ true → filter_map g (map (implicit_bound rs) os) ≡ []
@@ -159,7 +157,7 @@ module _ (t : Target) (f : Function) (v : ℕ) where
   abbrev own : Variable → Bool
   own x = nat_eq x.range v
 
-  kept : List Variable → List Variable
+  abbrev kept : List Variable → List Variable
   kept xs = filter is_plain (filter own xs)
 
   -- the use with its register at this place

@@ -50,11 +50,12 @@ any-moved v x (z ∷ xs) ys = or-swapped (same_use v x) (same_use v z) (list_any
 -- those of further ones stand behind
 pub once-append : (seen xs ys : List Variable) → each_once seen (xs ++ ys) ≡ each_once seen xs ++ each_once (seen ++ each_once seen xs) ys
 once-append seen [] ys = ap (λ zs. each_once zs ys) (sym (append-nil seen))
-once-append seen (x ∷ xs) ys = go (list_any (same_use x) seen)
+once-append seen (x ∷ xs) ys = go (list_any (same_use x) seen) (once-append seen xs ys) (once-append (x ∷ seen) xs ys)
   where
-    go : (b : Bool) → cond b (each_once seen (xs ++ ys)) (x ∷ each_once (x ∷ seen) (xs ++ ys)) ≡ cond b (each_once seen xs) (x ∷ each_once (x ∷ seen) xs) ++ each_once (seen ++ cond b (each_once seen xs) (x ∷ each_once (x ∷ seen) xs)) ys
-    go true = once-append seen xs ys
-    go false = ap (λ zs. x ∷ zs) (once-append (x ∷ seen) xs ys ∙ ap (λ zs. each_once (x ∷ seen) xs ++ zs) (seen-alike ((x ∷ seen) ++ each_once (x ∷ seen) xs) (seen ++ x ∷ each_once (x ∷ seen) xs) ys (λ v. any-moved v x seen (each_once (x ∷ seen) xs))))
+    go : (b : Bool) → each_once seen (xs ++ ys) ≡ each_once seen xs ++ each_once (seen ++ each_once seen xs) ys → each_once (x ∷ seen) (xs ++ ys) ≡ each_once (x ∷ seen) xs ++ each_once ((x ∷ seen) ++ each_once (x ∷ seen) xs) ys
+      → cond b (each_once seen (xs ++ ys)) (x ∷ each_once (x ∷ seen) (xs ++ ys)) ≡ cond b (each_once seen xs) (x ∷ each_once (x ∷ seen) xs) ++ each_once (seen ++ cond b (each_once seen xs) (x ∷ each_once (x ∷ seen) xs)) ys
+    go true h k = h
+    go false h k = ap (λ zs. x ∷ zs) (k ∙ ap (λ zs. each_once (x ∷ seen) xs ++ zs) (seen-alike ((x ∷ seen) ++ each_once (x ∷ seen) xs) (seen ++ x ∷ each_once (x ∷ seen) xs) ys (λ v. any-moved v x seen (each_once (x ∷ seen) xs))))
 
 -- those that were found and those that are left
 pub once-further : (seen xs ys : List Variable) → (seen ++ each_once seen xs) ++ each_once (seen ++ each_once seen xs) ys ≡ seen ++ each_once seen (xs ++ ys)

@@ -92,9 +92,13 @@ abbrev pub tied_use : ℕ → ℕ → Bound → Option RegOp
 tied_use v n (r, operands.Reg o) = cond (is_range v o.loc && (passes (ties_to n) r && not o.undef)) (Some o) None
 tied_use v n (r, o) = None
 
+-- the reload of a tied use into tiny c, which has that class
+abbrev pub tied_reload_of : Spilling → ℕ → Option ClassId → RegOp → Instr
+tied_reload_of s c k o = reload s.target k (plain_definition (Virtual c) None) (in_own_slot s o.index)
+
 -- the reloads into the tiny of a definition of the uses that are tied to it
 abbrev pub tied_reloads : Spilling → ℕ × OwnDefinition → List Instr
-tied_reloads s p = map (λ o. reload s.target p.1.class (plain_definition (Virtual p.0) None) (in_own_slot s o.index)) (filter_map (tied_use s.range p.1.number) (seated_operands s.target p.1.by))
+tied_reloads s p = map (tied_reload_of s p.0 p.1.class) (filter_map (tied_use s.range p.1.number) (seated_operands s.target p.1.by))
 
 -- what gives a tiny the value that is read: an instruction that is repeated, where there is one, or a reload
 abbrev pub given_from : Spilling → Option Instr → ℕ × Variable → Instr

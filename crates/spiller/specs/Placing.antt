@@ -1,10 +1,12 @@
 -- What is known of a place when its change is planned.
-use Rattle.std.specs.Prelude.{◌≡◌, ℕ, Bool, true, not, List, [], Option}
-use Rattle.std.specs.List.{AllByRecursion, list_all}
+use Rattle.std.specs.Prelude.{◌≡◌, ℕ, Bool, true, false, not, List, [], ◌∷◌, ◌++◌, Option}
+use Rattle.std.specs.List.{AllByRecursion, list_all, list_any}
 use Rattle.mir_func.specs.declared.func.Gap.{Gap}
 use Rattle.mir_func.specs.declared.func.Operand.{Operand}
 use Rattle.mir_func.specs.declared.func.Instr.{Instr}
-use Rattle.mir_func.specs.Binding.{implicit_registers, is_virtual}
+use Rattle.mir_func.specs.declared.func.Block.{Block}
+use Rattle.mir_func.specs.Binding.{does, implicit_registers, is_terminator, is_virtual}
+use Rattle.target_base.specs.declared.types.Target.{Target}
 use Rattle.mir_meaning.specs.Rules.{implicit_last}
 use Rattle.live_lanes.specs.Looks.{InOrder}
 use Rattle.live_lanes.specs.Touching.{FindsInstrs}
@@ -31,6 +33,12 @@ pub record IsPlainForm (i : Instr) : Type 0 where
 abbrev pub LiveAlike : Facts → Facts → Instr → Type 0
 LiveAlike facts other i = (k : ℕ) → facts.live_behind i.id k ≡ other.live_behind i.id k
 
+-- the id of the last of these instructions
+abbrev pub last_name : List Instr → ℕ
+last_name [] = 0
+last_name (i ∷ []) = i.id
+last_name (i ∷ j ∷ is) = last_name (j ∷ is)
+
 -- Of a place with tinies: its instructions have plain forms; the table tells what is live behind them, and what is repeated
 -- for its readings is known; and the gap is the one behind its last instruction.
 pub record KnownPlace (view : SpillView) (facts : Facts) (answer : UseKey → Option ℕ) (is : List Instr) (last : ℕ) (gap : Gap) : Type 0 where
@@ -46,3 +54,13 @@ pub record Spillable (view : SpillView) (facts : Facts) (answer : UseKey → Opt
   pub may : MaySpill view.target.now view.live.now.func view.live.now.table view.v
   pub are : AreFacts view.target.now view.live.now.func view.v facts
   pub tells : TellsRemat (spilling_of view view.slot facts) answer goes
+
+-- these are the terminators of the block, of which there are some
+pub record AreTerminators (t : Target) (b : Block) (is : List Instr) : Type 0 where
+  pub front : List Instr
+  pub first : Instr
+  pub rest : List Instr
+  pub is_some : is ≡ first ∷ rest
+  pub parts : b.instrs ≡ front ++ is
+  pub plain : list_any (does is_terminator t) front ≡ false
+  pub all : list_all (does is_terminator t) is ≡ true

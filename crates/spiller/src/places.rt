@@ -1,6 +1,6 @@
 //! How each kind of place changes when its range is spilled.
 
-ghost use Rattle.std.specs.Prelude.{◌≡◌, ℕ, true, Option, Some, None, OnOk, List, [], ◌∷◌, length};
+ghost use Rattle.std.specs.Prelude.{◌≡◌, ◌+◌, ℕ, true, false, Option, Some, None, OnOk, List, [], ◌∷◌, length, slice_get};
 ghost use Rattle.target_base.specs.Registers.{lanes_of};
 ghost use Rattle.target_base.specs.Storage.{same_numbers};
 ghost use Rattle.target_base.specs.declared.types.IndexId.{IndexId};
@@ -8,19 +8,22 @@ ghost use Rattle.mir_func.specs.declared.func.Gap.{Gap};
 ghost use Rattle.mir_func.specs.declared.func.Instr.{Instr};
 ghost use Rattle.mir_func.specs.declared.func.RegOp.{RegOp};
 ghost use Rattle.mir_func.specs.declared.func.Operand.TheVariants as operands;
-ghost use Rattle.mir_meaning.specs.Points.{is_range};
+ghost use Rattle.mir_func.specs.declared.func.Block.{Block};
+ghost use Rattle.mir_func.specs.Binding.{does, is_terminator};
+ghost use Rattle.mir_meaning.specs.Points.{is_range, touches};
 ghost use Rattle.mir_meaning.specs.Registers.{numbers, slot_lane_numbers};
 ghost use Rattle.live_lanes.specs.Looks.{InOrder};
 ghost use Rattle.spiller.specs.Additions.{with_addition};
 ghost use Rattle.spiller.specs.Moving.{IsCopied, copied_from, moved_through, spill_change, reload_change};
 ghost use Rattle.spiller.specs.Planned.{names_own, with_change};
 ghost use Rattle.spiller.specs.Reaching.{Facts};
-ghost use Rattle.spiller.specs.Readings.{source_in};
+ghost use Rattle.spiller.specs.Readings.{goes_in, source_in};
 ghost use Rattle.spiller.specs.Rematerialised.{copy_reading, repeated_for};
 ghost use Rattle.spiller.specs.Seating.{IsBehind};
 ghost use Rattle.spiller.specs.Setting.{class_beside, is_live_behind, is_own, lanes_named, moving_class, own_lanes, part_class};
-ghost use Rattle.spiller.specs.Spilled.{copied_in, copied_within, copy_change, is_own_part, undefined_change};
-ghost use Rattle.spiller.specs.Views.{gap_before, own_setting, planned, spilling_of};
+ghost use Rattle.spiller.specs.Placing.{Spillable};
+ghost use Rattle.spiller.specs.Spilled.{change, copied_in, copied_within, copy_change, is_own_part, undefined_change};
+ghost use Rattle.spiller.specs.Views.{gap_before, gap_behind, own_setting, planned, spilling_of};
 
 use crate::kinds::{reload_op, spill_op};
 use crate::plan::{Plan, SlotPart, SpillView, definition_of, slot_operands, undef_use, use_of};
@@ -116,7 +119,12 @@ pub(crate) fn change_single(
     instr: &Instr,
     remat: &Remat,
     plan: &mut Plan,
-) -> Result<(), AllocError> {
+) -> Result<(), AllocError>
+    ensures { (facts : Facts) → Spillable view.entry facts (source_in remat.now) (goes_in remat.now)
+        → (p j : ℕ) (b : Block) → slice_get view.entry.live.now.func.blocks p ≡ Some b → slice_get b.instrs j ≡ Some instr.now
+        → does is_terminator view.entry.target.now instr.now ≡ false → touches view.entry.v instr.now ≡ true
+        → OnOk result (planned plan.new ≡ with_change (spilling_of view.entry view.entry.slot facts) (gap_before view.entry instr.now.id) (gap_behind b (slice_get b.instrs (j + 1))) (instr.now ∷ []) (change (spilling_of view.entry view.entry.slot facts) plan.old.next_id plan.old.next_range (instr.now ∷ [])) (planned plan.old)) }
+{
     match effect_of(view.target, instr) {
         Some(Effect::Copy) => change_copy(view, instr, remat, plan),
         Some(Effect::Spill) => change_spill(view, instr, plan),

@@ -26,7 +26,7 @@ use interference::{Tinies, Tiny};
 use live_edits::Edit;
 use live_lanes::LiveFunc;
 use mir_func::operands::class_of;
-use mir_func::{Block, Gap, Instr, Loc, Op, Operand, Operands, RegOp};
+use mir_func::{Func, Gap, Instr, Loc, Op, Operand, Operands, RegOp};
 use phi_elim::moves::{whole_definition, whole_use};
 use std::alloc::{AllocError, Global};
 use target_base::{Boxed, ClassId, Copied, IndexId, OpId, Target};
@@ -146,7 +146,8 @@ impl Plan {
         gap: Gap,
         register: RegOp,
     ) -> Result<(), AllocError>
-        ensures { FindsInstrs view.entry.live.now.table view.entry.live.now.func.blocks → (d : Instr) → IsThere view.entry.live.now.func d → d.id ≡ source
+        ensures range { OnOk result (self.new.next_range ≡ self.old.next_range) }
+        ensures plan { FindsInstrs view.entry.live.now.table view.entry.live.now.func.blocks → (d : Instr) → IsThere view.entry.live.now.func d → d.id ≡ source
             → OnOk result (planned self.new ≡ with_addition (put_into (own_setting view.entry) gap (repeated d register ∷ [])) (planned self.old)) }
     {
         let Some(instr) = view.live.instr(source) else {
@@ -328,10 +329,10 @@ fn id_behind(instrs: &[Boxed<Instr>], place: usize) -> Option<u32>
 }
 
 /// The id of the instruction behind that at a place of the block at a position, if there is one.
-fn id_behind_at(blocks: &[Block], position: usize, place: usize) -> Option<u32>
-    ensures { (b : Block) → slice_get blocks.now position ≡ Some b → result ≡ option_map (λ i. i.id) (slice_get b.instrs (place + 1)) }
+fn id_behind_at(f: &Func, position: usize, place: usize) -> Option<u32>
+    ensures { (b : Block) → slice_get f.now.blocks position ≡ Some b → result ≡ option_map (λ i. i.id) (slice_get b.instrs (place + 1)) }
 {
-    match blocks.get(position) {
+    match f.blocks.as_slice().get(position) {
         Some(block) => id_behind(block.instrs.as_slice(), place),
         None => None,
     }
@@ -377,7 +378,7 @@ impl<'a> SpillView<'a> {
         let place = self.live.place_of(id);
         Gap {
             block: self.block_number(id),
-            before: id_behind_at(self.live.func().blocks.as_slice(), position, place),
+            before: id_behind_at(self.live.func(), position, place),
         }
     }
 

@@ -1,7 +1,7 @@
 //! The tinies of a place: one for each way of reading the range, and one for each definition of it.
 
-ghost use Rattle.std.specs.Prelude.{◌≡◌, ℕ, IfOk, OnOk, true, false, ◌&&◌, nat_eq, find, Some, None, Option, option_map, option_and_then, [], ◌∷◌, ◌++◌, map, flat_map};
-ghost use Rattle.std.specs.List.{list_any, AllByRecursion};
+ghost use Rattle.std.specs.Prelude.{◌≡◌, ◌+◌, ℕ, IfOk, OnOk, true, false, ◌&&◌, nat_eq, find, Some, None, Option, option_map, option_and_then, [], ◌∷◌, ◌++◌, map, flat_map};
+ghost use Rattle.std.specs.List.{cons_option, list_any, AllByRecursion};
 ghost use Rattle.mir_func.specs.declared.func.Gap.{Gap};
 ghost use Rattle.mir_func.specs.declared.func.Instr.{Instr};
 ghost use Rattle.mir_func.specs.Binding.{tied_number, numbered, registers};
@@ -9,11 +9,14 @@ ghost use Rattle.mir_meaning.specs.Places.{Variable, each_once};
 ghost use Rattle.live_lanes.specs.Looks.{InOrder};
 ghost use Rattle.live_lanes.specs.Touching.{FindsInstrs};
 ghost use Rattle.spiller.specs.Setting.{is_own};
-ghost use Rattle.spiller.specs.Spilled.{as_tiny, own_definition, numbered_operands};
+ghost use Rattle.spiller.specs.Spilled.{as_tiny, own_definition, numbered_operands, place_change, place_name};
+ghost use Rattle.spiller.specs.Planned.{with_change};
+ghost use Rattle.spiller.specs.Placing.{KnownPlace, last_name};
+ghost use Rattle.spiller.specs.Reaching.{Facts};
 ghost use Rattle.spiller.specs.Readings.{source_in};
-ghost use Rattle.spiller.specs.Additions.{with_addition, edited, put_into, own_use, own_uses, own_definitions, tied_use, tied_reloads, ways_given, definitions_given};
+ghost use Rattle.spiller.specs.Additions.{with_addition, edited, put_into, own_use, own_uses, own_definitions, tied_use, tied_reload_of, tied_reloads, ways_given, definitions_given};
 ghost use Rattle.spiller.specs.Seating.{read_tiny, defined_tiny, defined_as, IsGiven, placed, placed_operand, placed_edits, stored_tiny, IsBehind};
-ghost use Rattle.spiller.specs.Views.{same_way, named_by, way_of, ways_of, tiny_of_way, tiny_by_number, planned, own_setting, gap_before};
+ghost use Rattle.spiller.specs.Views.{same_way, named_by, way_of, ways_of, tiny_of_way, tiny_by_number, planned, own_setting, gap_before, spilling_of};
 
 use crate::plan::{Plan, SpillView, op_of};
 use crate::remat::{Remat, UseKey};
@@ -110,7 +113,28 @@ fn has_way(ways: &[IndexedClass], way: IndexedClass) -> bool
     ways.iter().any(|other| same_naming(way, *other))
 }
 
+/// Adds the way in which an operand with its role reads the range, unless it is there.
+#[tactic(auto, using(crate::proofs::Steps::way_rules))]
+fn add_way(
+    view: SpillView<'_>,
+    role: Option<Role>,
+    operand: &Operand,
+    ways: &mut Vec<IndexedClass>,
+) -> Result<(), AllocError>
+    ensures { OnOk result (map (way_of view.entry.v) ways.new.items ≡ map (way_of view.entry.v) ways.old.items ++ each_once (map (way_of view.entry.v) ways.old.items) (cons_option (own_use view.entry.target.now view.entry.live.now.func view.entry.v (role, operand.now)) [])) }
+{
+    let Some(way) = way_of_operand(view, role, operand) else {
+        return Ok(());
+    };
+    if has_way(ways.as_slice(), way) {
+        return Ok(());
+    }
+    ways.push(way)?;
+    Ok(())
+}
+
 /// Adds the ways in which an instruction reads the range, each once.
+#[tactic(auto, using(crate::proofs::Steps::ways_steps))]
 fn add_ways(
     view: SpillView<'_>,
     instr: &Instr,
@@ -122,11 +146,7 @@ fn add_ways(
     'operands: for operand in instr.operands.as_slice() {
         let (role, behind) = next_role(roles);
         roles = behind;
-        if let Some(way) = way_of_operand(view, role, operand) {
-            if !has_way(ways.as_slice(), way) {
-                ways.push(way)?;
-            }
-        }
+        add_way(view, role, operand, ways)?;
     }
     Ok(())
 }
@@ -186,6 +206,7 @@ fn give_way(
     plan: &mut Plan,
 ) -> Result<ReadTiny, AllocError>
     ensures tiny { IfOk result (λ r. r ≡ read_tiny (plan.old.next_range, way_of view.entry.v way)) }
+    ensures range { OnOk result (plan.new.next_range ≡ plan.old.next_range + 1) }
     ensures plan { FindsInstrs view.entry.live.now.table view.entry.live.now.func.blocks
         → (sources : Variable → Option Instr) → IsGiven view.entry.live.now.func (source_in remat.now) at sources (way_of view.entry.v way)
         → OnOk result (planned plan.new ≡ with_addition (ways_given (own_setting view.entry) (gap_before view.entry at) at sources ((plan.old.next_range, way_of view.entry.v way) ∷ [])) (planned plan.old)) }
@@ -227,13 +248,36 @@ fn give_ways(
     Ok(reads)
 }
 
+/// The id of the first of these instructions, which names their place.
+fn place_name(instrs: &[Boxed<Instr>]) -> u32
+    ensures { result ≡ place_name instrs.now }
+{
+    match instrs {
+        [] => 0,
+        [first, ..] => first.get().id,
+    }
+}
+
+/// The id of the last of these instructions.
+fn last_name(instrs: &[Boxed<Instr>]) -> u32
+    ensures { result ≡ last_name instrs.now }
+{
+    match instrs {
+        [] => 0,
+        [.., last] => last.get().id,
+    }
+}
+
 /// Changes the place of one instruction.
 pub(crate) fn change_instr(
     view: SpillView<'_>,
     instr: &Instr,
     remat: &Remat,
     plan: &mut Plan,
-) -> Result<(), AllocError> {
+) -> Result<(), AllocError>
+    ensures { (facts : Facts) (gap : Gap) → KnownPlace view.entry facts (source_in remat.now) (instr.now ∷ []) instr.now.id gap
+        → OnOk result (planned plan.new ≡ with_change (spilling_of view.entry view.entry.slot facts) (gap_before view.entry instr.now.id) gap (instr.now ∷ []) (place_change (spilling_of view.entry view.entry.slot facts) plan.old.next_range (instr.now ∷ [])) (planned plan.old)) }
+{
     let mut ways = Vec::new(view.alloc);
     add_ways(view, instr, &mut ways)?;
     let reads = give_ways(view, instr.id, ways.as_slice(), remat, plan)?;
@@ -249,18 +293,18 @@ pub(crate) fn change_terminators(
     instrs: &[Boxed<Instr>],
     remat: &Remat,
     plan: &mut Plan,
-) -> Result<(), AllocError> {
-    let (Some(first), Some(last)) = (instrs.first(), instrs.last()) else {
-        return Ok(());
-    };
-    let at = first.get().id;
+) -> Result<(), AllocError>
+    ensures { (facts : Facts) (gap : Gap) → KnownPlace view.entry facts (source_in remat.now) instrs.now (last_name instrs.now) gap
+        → OnOk result (planned plan.new ≡ with_change (spilling_of view.entry view.entry.slot facts) (gap_before view.entry (place_name instrs.now)) gap instrs.now (place_change (spilling_of view.entry view.entry.slot facts) plan.old.next_range instrs.now) (planned plan.old)) }
+{
+    let at = place_name(instrs);
     let mut ways = Vec::new(view.alloc);
     add_all_ways(view, instrs, &mut ways)?;
     let reads = give_ways(view, at, ways.as_slice(), remat, plan)?;
     let mut tinies = PlaceTinies::new(view, reads);
     tinies.define_all(view, at, instrs, plan)?;
     tinies.seat_all(view, instrs, plan)?;
-    tinies.store_all(view, last.get().id, plan)
+    tinies.store_all(view, last_name(instrs), plan)
 }
 
 impl PlaceTinies {
@@ -311,11 +355,31 @@ impl PlaceTinies {
         'operands: for (number, operand) in instr.operands.as_slice().iter().enumerate() {
             let (role, behind) = next_role(roles);
             roles = behind;
-            if let Some(name) = definition_in(view, instr, number, role, operand) {
-                let tiny = give_definition(view, at, instr, number, name, plan)?;
-                self.definitions.push(tiny)?;
-            }
+            self.define_operand(view, at, instr, (number, role, operand), plan)?;
         }
+        Ok(())
+    }
+
+    /// Gives the definition of the range that an operand of that number is its tiny, with the value of
+    /// the use that is tied to it, before the place of that name.
+    fn define_operand(
+        &mut self,
+        view: SpillView<'_>,
+        at: u32,
+        instr: &Instr,
+        bound: (usize, Option<Role>, &Operand),
+        plan: &mut Plan,
+    ) -> Result<(), AllocError>
+        ensures reads { OnOk result (self.new.reads ≡ self.old.reads) }
+        ensures tinies { OnOk result (self.new.definitions.items ≡ self.old.definitions.items ++ map defined_tiny (numbered plan.old.next_range (cons_option (own_definition (own_setting view.entry) instr.now (bound.entry.0, (bound.entry.1, bound.entry.2.now))) []))) }
+        ensures plan { OnOk result (planned plan.new ≡ with_addition (definitions_given (own_setting view.entry) (gap_before view.entry at) at (numbered plan.old.next_range (cons_option (own_definition (own_setting view.entry) instr.now (bound.entry.0, (bound.entry.1, bound.entry.2.now))) []))) (planned plan.old)) }
+    {
+        let (number, role, operand) = bound;
+        let Some(name) = definition_in(view, instr, number, role, operand) else {
+            return Ok(());
+        };
+        let tiny = give_definition(view, at, instr, number, name, plan)?;
+        self.definitions.push(tiny)?;
         Ok(())
     }
 
@@ -383,6 +447,7 @@ impl PlaceTinies {
     }
 
     /// The operands of an instruction with tinies in place of the range.
+    #[tactic(auto, using(crate::proofs::Steps::placed_steps))]
     fn placed_operands(
         &self,
         view: SpillView<'_>,
@@ -445,7 +510,13 @@ impl PlaceTinies {
         ensures { InOrder view.entry.live.now.table → (gap : Gap) → IsBehind view.entry last gap
             → OnOk result (planned plan.new ≡ with_addition (put_into (own_setting view.entry) gap (flat_map (stored_tiny (own_setting view.entry)) self.now.definitions.items)) (planned plan.old)) }
     {
-        let gap = view.gap_behind(last);
+        self.put_stores(view, view.gap_behind(last), plan)
+    }
+
+    /// Puts the stores of definitions into a gap.
+    fn put_stores(&self, view: SpillView<'_>, gap: Gap, plan: &mut Plan) -> Result<(), AllocError>
+        ensures { InOrder view.entry.live.now.table → OnOk result (planned plan.new ≡ with_addition (put_into (own_setting view.entry) gap (flat_map (stored_tiny (own_setting view.entry)) self.now.definitions.items)) (planned plan.old)) }
+    {
         'definitions: for tiny in &self.definitions {
             store_tiny(view, gap, *tiny, plan)?;
         }
@@ -493,6 +564,7 @@ fn give_definition(
 }
 
 /// Reloads the use that is tied to a definition into its tiny, in a gap.
+#[tactic(auto, using(crate::proofs::Steps::reload_steps))]
 fn reload_tied(
     view: SpillView<'_>,
     gap: Gap,
@@ -502,16 +574,32 @@ fn reload_tied(
 ) -> Result<(), AllocError>
     ensures { OnOk result (planned plan.new ≡ with_addition (put_into (own_setting view.entry) gap (tied_reloads (own_setting view.entry) (tiny.range, defined_as instr.now tiny.number tiny.indexed_class))) (planned plan.old)) }
 {
-    let register = whole_definition(tiny.range);
     let mut roles = roles_of(view.target, instr);
     'operands: for operand in instr.operands.as_slice() {
         let (role, behind) = next_role(roles);
         roles = behind;
-        if let Some(op) = tied_use(view, tiny.number, role, operand) {
-            plan.put_reload(view, gap, tiny.indexed_class.class, register, op.index)?;
-        }
+        reload_use(view, gap, tiny, role, operand, plan)?;
     }
     Ok(())
+}
+
+/// Reloads an operand with its role into the tiny of a definition, in a gap, where it is a use that is
+/// tied to it.
+fn reload_use(
+    view: SpillView<'_>,
+    gap: Gap,
+    tiny: DefinedTiny,
+    role: Option<Role>,
+    operand: &Operand,
+    plan: &mut Plan,
+) -> Result<(), AllocError>
+    ensures { OnOk result (planned plan.new ≡ with_addition (put_into (own_setting view.entry) gap (map (tied_reload_of (own_setting view.entry) tiny.range tiny.indexed_class.class) (cons_option (tied_use view.entry.v tiny.number (role, operand.now)) []))) (planned plan.old)) }
+{
+    let Some(op) = tied_use(view, tiny.number, role, operand) else {
+        return Ok(());
+    };
+    let register = whole_definition(tiny.range);
+    plan.put_reload(view, gap, tiny.indexed_class.class, register, op.index)
 }
 
 /// Whether one of the operands names the range.

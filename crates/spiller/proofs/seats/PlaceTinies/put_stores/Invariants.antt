@@ -3,7 +3,7 @@ use Rattle.live_lanes.specs.Looks.{InOrder}
 use Rattle.spiller.specs.Views.{own_setting, planned}
 use Rattle.spiller.specs.Additions.{put_into, with_addition}
 use Rattle.spiller.specs.Seating.{stored_tiny}
-use Rattle.spiller.proofs.seats.PlaceTinies.store_all.Given as goal
+use Rattle.spiller.proofs.seats.PlaceTinies.put_stores.Given as goal
 
 -- the stores of the definitions so far
 abbrev pub invariant-definitions : goal.invariant-definitions
