@@ -1,6 +1,6 @@
 -- What is planned for a place, in its parts, is what its change plans.
 use Rattle.std.proofs.Common.{◌≡◌, ◌∙◌, ℕ, ◌+◌, suc, Bool, true, false, cond, not, ◌&&◌, ◌||◌, List, [], ◌∷◌, ◌++◌, Option, Some, None, length, map, refl, sym, ap, arith, append_assoc}
-use Rattle.std.specs.Prelude.{nat_eq}
+use Rattle.std.specs.Prelude.{nat_eq, option_and_then}
 use Rattle.std.specs.List.{list_any}
 use Rattle.std.proofs.lemmas.Bool.{eq-eqb}
 use Rattle.std.proofs.lemmas.List.{append-nil, length-append, map-append}
@@ -8,6 +8,8 @@ use Rattle.std.proofs.lemmas.List.Folds.{list_any-append}
 use Rattle.target_base.specs.declared.types.ClassId.{ClassId}
 use Rattle.target_base.specs.declared.types.IndexId.{IndexId}
 use Rattle.target_base.specs.declared.types.OpId.{OpId}
+use Rattle.target_base.specs.Registers.{reload_place, spill_place}
+use Rattle.mir_func.specs.Edits.{made}
 use Rattle.mir_func.specs.declared.func.Gap.{Gap}
 use Rattle.mir_func.specs.declared.func.Loc.TheVariants.{Virtual}
 use Rattle.mir_func.specs.declared.func.RegOp.{RegOp}
@@ -16,7 +18,7 @@ use Rattle.mir_func.specs.declared.func.Operand.TheVariants as operands
 use Rattle.mir_func.specs.declared.func.Instr.{Instr}
 use Rattle.live_edits.specs.declared.edit.Edit.{Edit}
 use Rattle.live_edits.specs.declared.edit.Edit.TheVariants as edits
-use Rattle.spiller.specs.Setting.{Spilling, in_own_slot, lanes_named, plain_definition, plain_use, reload, store}
+use Rattle.spiller.specs.Setting.{Spilling, in_own_slot, lanes_named, opcode, plain_definition, plain_use, reload, store}
 use Rattle.spiller.specs.Spilled.{Change, becomes, in_place_of, is_slot, new_ids, through_tiny}
 use Rattle.spiller.specs.Views.{Planned}
 use Rattle.spiller.specs.Planned.{change_edits, known_op, names_own, names_own_slot, names_slot_anew, own_edits, put_all, uses_own_slot, with_change}
@@ -121,3 +123,18 @@ pub put-erased-by : (s u : Spilling) (before behind : Gap) (i x : Instr) (p q r 
 put-erased-by s u before behind i x p q r same a b =
     then-added (put_into s before (x ∷ [])) (edited (edits.Erase i.id ∷ [])) p q r (a ∙ ap (λ z. with_addition z p) same) b
     ∙ sym (put-erased s before behind i x p)
+
+-- a reload in an instruction's place, and a store behind it
+pub through-by : (s : Spilling) (id : ℕ) (k : Option ClassId) (from to : List Operand) (gap g : Gap) (n m c v : ℕ) (op other : OpId) (os others : List Operand) (p0 p1 p2 p3 p4 : Planned) → m ≡ n → v ≡ c → g ≡ gap
+    → op ≡ opcode (option_and_then (reload_place s.target) k) → os ≡ operands.Reg (plain_definition (Virtual v) None) ∷ from
+    → other ≡ opcode (option_and_then (spill_place s.target) k) → others ≡ operands.Reg (plain_use (Virtual v) None) ∷ to
+    → p1 ≡ with_addition (ranges_made ((k, m) ∷ [])) p0 → p2 ≡ with_addition slot_named p1 → p3 ≡ with_addition (edited (edits.Replace id op os ∷ [])) p2 → p4 ≡ with_addition (put_into s g (made 0 other others ∷ [])) p3
+    → p4 ≡ with_addition (moved_through s.target n c id gap k from to) p0
+through-by s id k from to gap g n m c v op other os others p0 p1 p2 p3 p4 a1 a2 a3 o1 o2 o3 o4 e1 e2 e3 e4 =
+    let q1 = ranges_made ((k, m) ∷ []) in
+    let q3 = edited (edits.Replace id op os ∷ []) in
+    let q4 = put_into s g (made 0 other others ∷ []) in
+    let all = then-added (both (both q1 slot_named) q3) q4 p0 p3 p4 (then-added (both q1 slot_named) q3 p0 p2 p3 (then-added q1 slot_named p0 p1 p2 e1 e2) e3) e4 in
+    let l = o2 ∙ ap (λ w. operands.Reg (plain_definition (Virtual w) None) ∷ from) a2 in
+    let r = o4 ∙ ap (λ w. operands.Reg (plain_use (Virtual w) None) ∷ to) a2 in
+    all ∙ (λ j. with_addition (record { edits = edits.Replace id (o1 j) (l j) ∷ edits.Put (a3 j) (o3 j) (r j) ∷ []; tinies = (k, a1 j) ∷ []; uses_slot = true; new = 1 }) p0)

@@ -19,3 +19,4 @@ pub mod PlacePlanned
 pub mod Steps
 pub mod Singles
 pub mod Terminators
+pub mod Moves

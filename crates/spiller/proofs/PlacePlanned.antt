@@ -145,3 +145,40 @@ module _ (view : SpillView) (facts : Facts) (answer : UseKey → Option ℕ) (is
       where
         tinies-are : map (λ k. (k, at)) (map (λ p. p.1.class) x.ways ++ map (λ p. p.1.class) x.definitions) ≡ ks ++ js
         tinies-are = map-append (λ (k : Option ClassId). (k, at)) (map (λ p. p.1.class) x.ways) (map (λ p. p.1.class) x.definitions) ∙ (λ j. named-ways at x.ways j ++ named-definitions at x.definitions j)
+
+-- the same of a place of one instruction
+pub single-planned : (view : SpillView) (facts : Facts) (answer : UseKey → Option ℕ) (i : Instr) (last : ℕ) (gap : Gap) → KnownPlace view facts answer (i ∷ []) last gap → (p0 p1 p2 p3 p4 : Planned) (ways : List IndexedClass) (reads : List ReadTiny) (defs : List DefinedTiny)
+    → map (way_of view.v) ways ≡ each_once [] (own_uses view.target.now view.live.now.func view.v i)
+    → reads ≡ map read_tiny (numbered p0.next_range (map (way_of view.v) ways))
+    → ((sources : Variable → Option Instr) → AllByRecursion (IsGiven view.live.now.func answer i.id sources) (map (way_of view.v) ways) → p1 ≡ with_addition (ways_given (own_setting view) (gap_before view i.id) i.id sources (numbered p0.next_range (map (way_of view.v) ways))) p0)
+    → defs ≡ map defined_tiny (numbered p1.next_range (own_definitions (own_setting view) i))
+    → p2 ≡ with_addition (definitions_given (own_setting view) (gap_before view i.id) i.id (numbered p1.next_range (own_definitions (own_setting view) i))) p1
+    → p3 ≡ with_addition (edited (placed_edits (own_setting view) reads defs i)) p2
+    → p4 ≡ with_addition (put_into (own_setting view) gap (flat_map (stored_tiny (own_setting view)) defs)) p3
+    → p4 ≡ with_change (spilling_of view view.slot facts) (gap_before view i.id) gap (i ∷ []) (place_change (spilling_of view view.slot facts) p0.next_range (i ∷ [])) p0
+single-planned view facts answer i last gap k p0 p1 p2 p3 p4 ways reads defs found kept one made two three four =
+    let u = own_setting view in
+    let uses = sym (append-nil (own_uses view.target.now view.live.now.func view.v i)) in
+    let ds = sym (append-nil (own_definitions u i)) in
+    place-planned view facts answer (i ∷ []) last gap k p0 p1 p2 p3 p4 ways reads defs
+    (found ∙ ap (each_once []) uses) kept one
+    (made ∙ ap (λ xs. map defined_tiny (numbered p1.next_range xs)) ds)
+    (two ∙ ap (λ xs. with_addition (definitions_given u (gap_before view i.id) i.id (numbered p1.next_range xs)) p1) ds)
+    (three ∙ ap (λ es. with_addition (edited es) p2) (sym (append-nil (placed_edits u reads defs i))))
+    four
+
+-- the same of instructions whose place has this name
+pub named-planned : (view : SpillView) (facts : Facts) (answer : UseKey → Option ℕ) (is : List Instr) (last : ℕ) (gap : Gap) → KnownPlace view facts answer is last gap → (name : ℕ) → name ≡ place_name is → (p0 p1 p2 p3 p4 : Planned) (ways : List IndexedClass) (reads : List ReadTiny) (defs : List DefinedTiny)
+    → map (way_of view.v) ways ≡ each_once [] (flat_map (own_uses view.target.now view.live.now.func view.v) is)
+    → reads ≡ map read_tiny (numbered p0.next_range (map (way_of view.v) ways))
+    → ((sources : Variable → Option Instr) → AllByRecursion (IsGiven view.live.now.func answer name sources) (map (way_of view.v) ways) → p1 ≡ with_addition (ways_given (own_setting view) (gap_before view name) name sources (numbered p0.next_range (map (way_of view.v) ways))) p0)
+    → defs ≡ map defined_tiny (numbered p1.next_range (flat_map (own_definitions (own_setting view)) is))
+    → p2 ≡ with_addition (definitions_given (own_setting view) (gap_before view name) name (numbered p1.next_range (flat_map (own_definitions (own_setting view)) is))) p1
+    → p3 ≡ with_addition (edited (flat_map (placed_edits (own_setting view) reads defs) is)) p2
+    → p4 ≡ with_addition (put_into (own_setting view) gap (flat_map (stored_tiny (own_setting view)) defs)) p3
+    → p4 ≡ with_change (spilling_of view view.slot facts) (gap_before view (place_name is)) gap is (place_change (spilling_of view view.slot facts) p0.next_range is) p0
+named-planned view facts answer is last gap k name named p0 p1 p2 p3 p4 ways reads defs found kept one made two three four =
+    let u = own_setting view in
+    subst
+      (λ a. ((sources : Variable → Option Instr) → AllByRecursion (IsGiven view.live.now.func answer a sources) (map (way_of view.v) ways) → p1 ≡ with_addition (ways_given u (gap_before view a) a sources (numbered p0.next_range (map (way_of view.v) ways))) p0) → p2 ≡ with_addition (definitions_given u (gap_before view a) a (numbered p1.next_range (flat_map (own_definitions u) is))) p1 → p4 ≡ with_change (spilling_of view view.slot facts) (gap_before view (place_name is)) gap is (place_change (spilling_of view view.slot facts) p0.next_range is) p0)
+      (sym named) (λ a b. place-planned view facts answer is last gap k p0 p1 p2 p3 p4 ways reads defs found kept a made b three four) one two

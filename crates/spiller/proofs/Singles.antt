@@ -8,6 +8,7 @@ use Rattle.target_base.specs.declared.types.IndexId.{IndexId}
 use Rattle.target_base.specs.declared.types.Role.{Role}
 use Rattle.target_base.specs.declared.types.Role.TheVariants as roles
 use Rattle.target_base.specs.declared.types.Target.{Target}
+use Rattle.target_base.specs.Rules.{is_copy, is_implicit_def, is_reload, is_spill}
 use Rattle.target_base.specs.Roles.{is_definition as is_definition_role, is_use as is_use_role, is_lanes, is_slot as is_slot_role}
 use Rattle.target_base.proofs.Tests.{first_of_both, second_of_both}
 use Rattle.meaning.specs.Live.{Among as Member, here as first, there as later}
@@ -34,12 +35,12 @@ use Rattle.spiller.specs.declared.plan.SpillView.{SpillView}
 use Rattle.spiller.specs.declared.remat.UseKey.{UseKey}
 use Rattle.spiller.specs.Reaching.{Facts}
 use Rattle.spiller.specs.Setting.{Spilling, is_own, lanes_named}
-use Rattle.spiller.specs.Rematerialised.{is_needless, places_from, places_of, repeated_for, way_reading, ways_read}
+use Rattle.spiller.specs.Rematerialised.{copy_reading, is_needless, places_from, places_of, repeated_for, way_reading, ways_read}
 use Rattle.spiller.specs.Spilled.{Change, becomes, change, copy_change, effect_change, place_change, place_name, undefined_change}
 use Rattle.spiller.specs.Views.{IsThere, gap_behind, own_setting, spilling_of}
 use Rattle.spiller.specs.Planned.{is_move_place, names_own, way_key}
 use Rattle.spiller.specs.Seating.{IsBehind, IsGiven}
-use Rattle.spiller.specs.Moving.{reload_change, spill_change}
+use Rattle.spiller.specs.Moving.{IsCopied, is_placed, reload_change, spill_change}
 use Rattle.spiller.specs.Placing.{IsPlainForm, KnownPlace, LiveAlike, Spillable, last_name}
 use Rattle.spiller.proofs.Known.{plain-form, repeated-there, tells-live}
 
@@ -56,14 +57,6 @@ reload-is s n c i o slot e os = λ k. effect_change s n c i (e k) (os k)
 
 pub undefined-is : (s : Spilling) (n c : ℕ) (i : Instr) (o : RegOp) → effect_of s.target i ≡ Some effects.ImplicitDef → i.operands ≡ operands.Reg o ∷ [] → change s n c (i ∷ []) ≡ undefined_change s i o
 undefined-is s n c i o e os = λ k. effect_change s n c i (e k) (os k)
-
--- the effect is none of those whose instructions are changed by themselves
-abbrev pub is_placed : Effect → Bool
-is_placed effects.Copy = false
-is_placed effects.Spill = false
-is_placed effects.Reload = false
-is_placed effects.ImplicitDef = false
-is_placed e = true
 
 other : (s : Spilling) (n c : ℕ) (i : Instr) (e : Effect) (os : List Operand) → is_placed e ≡ true → effect_change s n c i (Some e) os ≡ cond (is_needless s i) (becomes []) (place_change s c (i ∷ []))
 other s n c i effects.Copy os h = absurd (cc)
@@ -208,10 +201,6 @@ module _ (view : SpillView) (facts : Facts) (answer : UseKey → Option ℕ) (go
 
   -- the place of one instruction with tinies
 
-  known-of : (test : Effect → Bool) (q : Option Effect) → passes test q ≡ true → (e : Effect) × (q ≡ Some e) × (test e ≡ true)
-  known-of test None h = absurd (cc)
-  known-of test (Some e) h = (e, refl, h)
-
   rolled-of : (e : Effect) → is_placed e ≡ true → not (is_lowered_away e) ≡ true → has_roles e ≡ true
   rolled-of effects.Copy h g = absurd (cc)
   rolled-of effects.ImplicitDef h g = absurd (cc)
@@ -226,20 +215,17 @@ module _ (view : SpillView) (facts : Facts) (answer : UseKey → Option ℕ) (go
   still e h = refl
 
   module _ (p j : ℕ) (b : Block) (i : Instr) (is_block : slice_get f.blocks p ≡ Some b) (is_instr : slice_get b.instrs j ≡ Some i) where
-    -- its effect
-    pub effect : (e : Effect) × (effect_of t i ≡ Some e) × (not (is_lowered_away e) ≡ true)
-    effect = known-of (λ e. not (is_lowered_away e)) (effect_of t i) (w.may.lowered.lowered b i (block-in p j b i is_block is_instr) (instr-in p j b i is_block is_instr))
-
-    pub single-known : does is_terminator t i ≡ false → is_placed effect.0 ≡ true → KnownPlace view facts answer (i ∷ []) i.id (gap_behind b (slice_get b.instrs (j + 1)))
-    single-known plain placed =
+    pub single-known : (e : Effect) → effect_of t i ≡ Some e → does is_terminator t i ≡ false → is_placed e ≡ true → KnownPlace view facts answer (i ∷ []) i.id (gap_behind b (slice_get b.instrs (j + 1)))
+    single-known e known plain placed =
+        let lowered : not (is_lowered_away e) ≡ true = subst (λ q. passes (λ x. not (is_lowered_away x)) q ≡ true) known (w.may.lowered.lowered b i (block-in p j b i is_block is_instr) (instr-in p j b i is_block is_instr)) in
         let none : list_any (does is_terminator t) (take j b.instrs) ≡ false = turn (does is_terminator t i) (list_any (does is_terminator t) (take j b.instrs)) plain (w.may.lowered.terminators b j i (block-in p j b i is_block is_instr) is_instr) in
         let m = single-from t b.instrs j i is_instr none plain in
-        let moves : is_move_place s (i ∷ []) ≡ false = ap (λ q. elim q as (λ q. Bool) [ None ↦ false | Some effects.Copy ↦ true | Some effects.Spill ↦ true | Some x ↦ false ]) effect.1 ∙ still effect.0 placed in
+        let moves : is_move_place s (i ∷ []) ≡ false = ap (λ q. elim q as (λ q. Bool) [ None ↦ false | Some effects.Copy ↦ true | Some effects.Spill ↦ true | Some x ↦ false ]) known ∙ still e placed in
         record {
           finds = finds;
           ordered = ordered;
           behind = behind p j b i is_block is_instr;
-          forms = (form p j b i is_block is_instr effect.0 effect.1 (rolled-of effect.0 placed effect.2), tt);
+          forms = (form p j b i is_block is_instr e known (rolled-of e placed lowered), tt);
           live = (live p j b i is_block is_instr, tt);
           given = given b (i ∷ []) (block-in p j b i is_block is_instr) m moves (ways_read s (i ∷ [])) (λ x h. h);
         }
@@ -248,3 +234,45 @@ module _ (view : SpillView) (facts : Facts) (answer : UseKey → Option ℕ) (go
         turn true c e h = absurd (cc)
         turn false true e h = absurd (cc)
         turn false false e h = refl
+
+-- effects by their tests
+
+pub copy-effect : (e : Effect) → is_copy e ≡ true → e ≡ effects.Copy
+copy-effect effects.Copy h = refl
+copy-effect e h = absurd (cc)
+
+pub spill-effect : (e : Effect) → is_spill e ≡ true → e ≡ effects.Spill
+spill-effect effects.Spill h = refl
+spill-effect e h = absurd (cc)
+
+pub reload-effect : (e : Effect) → is_reload e ≡ true → e ≡ effects.Reload
+reload-effect effects.Reload h = refl
+reload-effect e h = absurd (cc)
+
+pub undefined-effect : (e : Effect) → is_implicit_def e ≡ true → e ≡ effects.ImplicitDef
+undefined-effect effects.ImplicitDef h = refl
+undefined-effect e h = absurd (cc)
+
+pub other-effect : (e : Effect) → is_copy e ≡ false → is_spill e ≡ false → is_reload e ≡ false → is_implicit_def e ≡ false → is_placed e ≡ true
+other-effect effects.Copy a b c d = absurd (cc)
+other-effect effects.Spill a b c d = absurd (cc)
+other-effect effects.Reload a b c d = absurd (cc)
+other-effect effects.ImplicitDef a b c d = absurd (cc)
+other-effect e a b c d = refl
+
+-- a copy of the range
+pub copied-known : (view : SpillView) (facts : Facts) (answer : UseKey → Option ℕ) (goes : ℕ → Bool) (w : Spillable view facts answer goes) (p j : ℕ) (b : Block) (i : Instr) → slice_get view.live.now.func.blocks p ≡ Some b → slice_get b.instrs j ≡ Some i → (d o : RegOp) → effect_of view.target.now i ≡ Some effects.Copy → i.operands ≡ operands.Reg d ∷ operands.Reg o ∷ [] → is_own (spilling_of view view.slot facts) o ≡ true
+    → IsCopied view answer i.id (repeated_for (spilling_of view view.slot facts) (copy_reading (spilling_of view view.slot facts) i d o))
+copied-known view facts answer goes w p j b i is_block is_instr d o known are own = record {
+  finds = finds view facts answer goes w;
+  is_source = w.tells.copies b i d o (block-in view facts answer goes w p j b i is_block is_instr) (instr-in view facts answer goes w p j b i is_block is_instr) known are own;
+  there = λ x e. repeated-there (spilling_of view view.slot facts) (copy_reading (spilling_of view view.slot facts) i d o) x e;
+}
+
+-- an instruction of another effect goes, or gets tinies
+
+pub needless-is : (s : Spilling) (n c : ℕ) (i : Instr) (e : Effect) → effect_of s.target i ≡ Some e → is_placed e ≡ true → is_needless s i ≡ true → change s n c (i ∷ []) ≡ becomes []
+needless-is s n c i e known placed needless = other-is s n c i e known placed ∙ ap (λ b. cond b (becomes []) (place_change s c (i ∷ []))) needless
+
+pub needed-is : (s : Spilling) (n c : ℕ) (i : Instr) (e : Effect) → effect_of s.target i ≡ Some e → is_placed e ≡ true → is_needless s i ≡ false → change s n c (i ∷ []) ≡ place_change s c (i ∷ [])
+needed-is s n c i e known placed needed = other-is s n c i e known placed ∙ ap (λ b. cond b (becomes []) (place_change s c (i ∷ []))) needed

@@ -1,5 +1,5 @@
 -- Steps of walks that plan.
-use Rattle.std.proofs.Common.{◌≡◌, ◌∙◌, ℕ, ◌+◌, ◌<◌, ◌≤◌, zero, suc, Bool, true, false, cond, ◌||◌, List, [], ◌∷◌, ◌++◌, Option, Some, None, get_or, drop, flat_map, length, map, take, refl, sym, ap, subst, append_assoc, add-one, arith}
+use Rattle.std.proofs.Common.{◌≡◌, ◌∙◌, ℕ, ◌+◌, ◌-◌, ◌<◌, ◌≤◌, zero, suc, Bool, true, false, cond, ◌||◌, List, [], ◌∷◌, ◌++◌, Option, Some, None, get_or, drop, flat_map, length, map, take, refl, sym, ap, subst, append_assoc, add-one, arith}
 use Rattle.std.specs.Prelude.{filter_map, option_map}
 use Rattle.std.specs.List.{AllByRecursion, cons_option, list_any}
 use Rattle.std.proofs.lemmas.List.{append-nil, length-append, length-map, length-take-le, map-append, take_more}
@@ -20,6 +20,7 @@ use Rattle.spiller.specs.Setting.{Spilling}
 use Rattle.spiller.specs.Spilled.{OwnDefinition}
 use Rattle.spiller.specs.Views.{Planned, same_way, way_of}
 use Rattle.spiller.specs.Additions.{both, definitions_given, given_from, put_into, ranges_made, tied_reloads, ways_given, with_addition}
+use Rattle.spiller.specs.Placing.{last_name}
 use Rattle.spiller.specs.Seating.{defined_tiny, read_tiny}
 use Rattle.spiller.proofs.Added.{addition-is, or-false, plan-is, put-more, then-added, twice}
 use Rattle.spiller.proofs.WaysFound.{one-use}
@@ -55,6 +56,10 @@ ways-step g qs next r k os o now new total h at role left e was =
     ∙ (once-further now (cons_option (g (r, o)) []) rest
     ∙ (ap (λ xs. now ++ each_once now xs) (sym (told-more g qs next r k os o h at role left ∙ one-first (g (r, o)) rest))
     ∙ was))
+
+-- the same where the operands are looked at as a slice
+pub ways-walked : (g : Bound → Option Variable) (qs next : List Role) (r : Option Role) (k : ℕ) (items os : List Operand) (o : Operand) (now new total : List Variable) → items ≡ os → k < length items → o ≡ get_or items k o → r ≡ first_role qs → next ≡ after_first qs → new ≡ now ++ each_once now (cons_option (g (r, o)) []) → now ++ each_once now (filter_map g (explicit_bound qs (drop k os))) ≡ total → new ++ each_once new (filter_map g (explicit_bound next (drop (k + 1) os))) ≡ total
+ways-walked g qs next r k items os o now new total are h at role left e was = ways-step g qs next r k os o now new total (subst (λ xs. k < length xs) are h) (subst (λ xs. o ≡ get_or xs k o) are at) role left e was
 
 pub ways-done : (g : Bound → Option Variable) (qs : List Role) (k : ℕ) (os : List Operand) (now total : List Variable) → length os ≤ k → now ++ each_once now (filter_map g (explicit_bound qs (drop k os))) ≡ total → now ≡ total
 ways-done g qs k os now total h was = sym (ap (λ xs. now ++ each_once now xs) (told-all g qs k os h) ∙ append-nil now) ∙ was
@@ -203,3 +208,57 @@ pub all-at : {X Y : Type 0} (P : Y → Type 0) (f : X → Y) (xs : List X) (k : 
 all-at P f [] k x h at all = absurd (omega (arith, h))
 all-at P f (y ∷ xs) zero x h at all = subst (λ z. P (f z)) (sym at) all.0
 all-at P f (y ∷ xs) (suc k) x h at all = all-at P f xs k x (omega (arith, h)) at all.1
+
+-- things of one more
+pub flat-take : {X Y : Type 0} (f : X → List Y) (xs : List X) (k : ℕ) (x : X) → k < length xs → x ≡ get_or xs k x → flat_map f (take (k + 1) xs) ≡ flat_map f (take k xs) ++ f x
+flat-take f xs k x h at =
+    ap (flat_map f) (take_more xs k x h)
+    ∙ (ap (λ y. flat_map f (take k xs ++ y ∷ [])) (sym at)
+    ∙ (flat_map-append f (take k xs) (x ∷ [])
+    ∙ ap (λ zs. flat_map f (take k xs) ++ zs) (append-nil (f x))))
+
+-- the definitions of one instruction more
+
+pub define-more-plan : (s : Spilling) (gap : Gap) (at : ℕ) (ds es all : List OwnDefinition) (p q r : Planned) → all ≡ ds ++ es → q ≡ with_addition (definitions_given s gap at (numbered p.next_range ds)) p → r ≡ with_addition (definitions_given s gap at (numbered q.next_range es)) q → r ≡ with_addition (definitions_given s gap at (numbered p.next_range all)) p
+define-more-plan s gap at ds es all p q r is a b = b ∙ (further-plan s gap at p q ds es a ∙ ap (λ xs. with_addition (definitions_given s gap at (numbered p.next_range xs)) p) (sym is))
+
+pub define-more-tinies : (s : Spilling) (gap : Gap) (at : ℕ) (ds es all : List OwnDefinition) (p q : Planned) (xs ys zs : List DefinedTiny) → all ≡ ds ++ es → q ≡ with_addition (definitions_given s gap at (numbered p.next_range ds)) p → ys ≡ xs ++ map defined_tiny (numbered p.next_range ds) → zs ≡ ys ++ map defined_tiny (numbered q.next_range es) → zs ≡ xs ++ map defined_tiny (numbered p.next_range all)
+define-more-tinies s gap at ds es all p q xs ys zs is a b c = c ∙ (further-tinies p.next_range q.next_range xs ys ds es (range-behind s gap at p q ds a) b ∙ ap (λ ws. xs ++ map defined_tiny (numbered p.next_range ws)) (sym is))
+
+-- the ways of one instruction more
+pub all-ways-step : (f : Instr → List Variable) (is : List Instr) (k : ℕ) (i j : Instr) (before now new : List Variable) → k < length is → i ≡ get_or is k i → j ≡ i → now ≡ before ++ each_once before (flat_map f (take k is)) → new ≡ now ++ each_once now (f j) → new ≡ before ++ each_once before (flat_map f (take (k + 1) is))
+all-ways-step f is k i j before now new h at same a b =
+    b
+    ∙ ((λ z. a z ++ each_once (a z) (f (same z)))
+    ∙ (once-further before (flat_map f (take k is)) (f i)
+    ∙ ap (λ xs. before ++ each_once before xs) (sym (flat-take f is k i h at))))
+
+-- one way of reading more, by its place in a slice
+
+pub numbered-at : (v n k : ℕ) (xs : List IndexedClass) (d : IndexedClass) → k < length xs → numbered n (map (way_of v) (take (k + 1) xs)) ≡ numbered n (map (way_of v) (take k xs)) ++ (n + k, way_of v (get_or xs k d)) ∷ []
+numbered-at v n k xs d h =
+    let long : length (map (way_of v) (take k xs)) ≡ k = length-map (take k xs) (way_of v) ∙ length-take-le k xs (omega (arith, h)) in
+    ap (λ ys. numbered n (map (way_of v) ys)) (take_more xs k d h)
+    ∙ (ap (numbered n) (map-append (way_of v) (take k xs) (get_or xs k d ∷ []))
+    ∙ (numbered_append n (map (way_of v) (take k xs)) (way_of v (get_or xs k d) ∷ [])
+    ∙ ap (λ m. numbered n (map (way_of v) (take k xs)) ++ (n + m, way_of v (get_or xs k d)) ∷ []) long))
+
+pub give-tinies-step : (v n k m : ℕ) (xs : List IndexedClass) (d : IndexedClass) (old new : List ReadTiny) (r : ReadTiny) → k < length xs → old ≡ map read_tiny (numbered n (map (way_of v) (take k xs))) → m ≡ n + k → r ≡ read_tiny (m, way_of v (get_or xs k d)) → new ≡ old ++ r ∷ [] → new ≡ map read_tiny (numbered n (map (way_of v) (take (k + 1) xs)))
+give-tinies-step v n k m xs d old new r h a is b c = give-tinies n m k (map (way_of v) (take k xs)) (way_of v (get_or xs k d)) (numbered n (map (way_of v) (take (k + 1) xs))) old new r is (numbered-at v n k xs d h) a b c
+
+pub give-plan-step : (v : ℕ) (s : Spilling) (gap : Gap) (at : ℕ) (sources : Variable → Option Instr) (n k m : ℕ) (xs : List IndexedClass) (d : IndexedClass) (p q r : Planned) → k < length xs → m ≡ n + k → q ≡ with_addition (ways_given s gap at sources (numbered n (map (way_of v) (take k xs)))) p → r ≡ with_addition (ways_given s gap at sources ((m, way_of v (get_or xs k d)) ∷ [])) q → r ≡ with_addition (ways_given s gap at sources (numbered n (map (way_of v) (take (k + 1) xs)))) p
+give-plan-step v s gap at sources n k m xs d p q r h is a b = give-plan s gap at sources n m k (map (way_of v) (take k xs)) (way_of v (get_or xs k d)) (numbered n (map (way_of v) (take (k + 1) xs))) p q r is (numbered-at v n k xs d h) a b
+
+pub all-got : {X Y : Type 0} (P : Y → Type 0) (f : X → Y) (xs : List X) (k : ℕ) (d : X) → k < length xs → AllByRecursion P (map f xs) → P (f (get_or xs k d))
+all-got P f [] k d h all = absurd (omega (arith, h))
+all-got P f (y ∷ xs) zero d h all = all.0
+all-got P f (y ∷ xs) (suc k) d h all = all-got P f xs k d (omega (arith, h)) all.1
+
+-- the last of some instructions
+pub last-named : (is : List Instr) (x : Instr) → 1 ≤ length is → x ≡ get_or is (length is - 1) x → x.id ≡ last_name is
+last-named [] x h at = absurd (omega (arith, h))
+last-named (i ∷ []) x h at = ap (λ (y : Instr). y.id) at
+last-named (i ∷ j ∷ is) x h at =
+    let e : length (i ∷ j ∷ is) - 1 ≡ suc (length (j ∷ is) - 1) = omega arith in
+    let g : 1 ≤ length (j ∷ is) = omega arith in
+    last-named (j ∷ is) x g (at ∙ ap (λ k. get_or (i ∷ j ∷ is) k x) e)

@@ -21,9 +21,9 @@ use Rattle.spiller.specs.Rematerialised.{all_readings, is_constant, is_needless,
 use Rattle.spiller.specs.Spilled.{becomes, change, place_change}
 use Rattle.spiller.specs.Views.{gap_behind, own_setting, spilling_of}
 use Rattle.spiller.specs.Planned.{is_move_place}
-use Rattle.spiller.specs.Seating.{IsBehind}
+use Rattle.spiller.specs.Moving.{is_placed}
 use Rattle.spiller.specs.Placing.{AreTerminators, IsPlainForm, KnownPlace, LiveAlike, Spillable, last_name}
-use Rattle.spiller.proofs.Singles.{behind, block-in, finds, form, given, instr-in, is_placed, live, ordered, other-is}
+use Rattle.spiller.proofs.Singles.{block-in, finds, form, given, live, ordered, other-is}
 
 known-of : (test : Effect → Bool) (q : Option Effect) → passes test q ≡ true → (e : Effect) × (q ≡ Some e) × (test e ≡ true)
 known-of test None h = absurd (cc)

@@ -245,17 +245,13 @@ fn through_tiny(
     ensures { (gap : Gap) → IsBehind view.entry instr.now.id gap
         → OnOk result (planned plan.new ≡ with_addition (moved_through view.entry.target.now plan.old.next_id plan.old.next_range instr.now.id gap class (operands.Stack from.slot ∷ lanes_named from.index ∷ []) (operands.Stack to.slot ∷ lanes_named to.index ∷ [])) (planned plan.old)) }
 {
-    plan.note_slot();
     let tiny = plan.tiny(class, plan.next_id())?;
-    let operands = slot_operands(view.alloc, whole_definition(tiny), from)?;
-    plan.replace(instr.id, reload_op(view.target, class), operands)?;
-    let operands = slot_operands(view.alloc, whole_use(tiny), to)?;
-    plan.put(
-        view,
-        view.gap_behind(instr.id),
-        spill_op(view.target, class),
-        operands,
-    )
+    plan.note_slot();
+    let loaded = slot_operands(view.alloc, whole_definition(tiny), from)?;
+    plan.replace(instr.id, reload_op(view.target, class), loaded)?;
+    let stored = slot_operands(view.alloc, whole_use(tiny), to)?;
+    let gap = view.gap_behind(instr.id);
+    plan.put(view, gap, spill_op(view.target, class), stored)
 }
 
 /// The index that an operand is, where it is one.
@@ -269,10 +265,10 @@ fn index_of(lanes: &Operand) -> Option<IndexId>
 }
 
 /// The register side and the slot's lanes of a store or a reload.
-fn slot_sides(operands: &[Operand]) -> Option<(RegOp, SlotPart)>
-    ensures { (o : RegOp) (m : ℕ) (x : Option IndexId) → operands.now ≡ operands.Reg o ∷ operands.Stack m ∷ lanes_named x ∷ [] → result ≡ Some (o, record { slot = m; index = x }) }
+fn slot_sides(sides: &[Operand]) -> Option<(RegOp, SlotPart)>
+    ensures { (o : RegOp) (m : ℕ) (x : Option IndexId) → sides.now ≡ operands.Reg o ∷ operands.Stack m ∷ lanes_named x ∷ [] → result ≡ Some (o, record { slot = m; index = x }) }
 {
-    match operands {
+    match sides {
         [Operand::Reg(register), Operand::Stack(slot), lanes, ..] => Some((
             *register,
             SlotPart {
