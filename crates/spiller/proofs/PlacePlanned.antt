@@ -35,11 +35,11 @@ length-numbered n (x ∷ xs) = ap suc (length-numbered (suc n) xs)
 
 -- the tinies of ways and of definitions, each with the name of the place
 
-named-ways : (at : ℕ) (ps : List (ℕ × Variable)) → map (λ (k : Option ClassId). (k, at)) (map (λ p. p.1.class) ps) ≡ map (λ p. (p.1.class, at)) ps
+named-ways : (at : ℕ) (ps : List (ℕ × Variable)) → map {B = Option ClassId × ℕ} (λ (k : Option ClassId). (k, at)) (map (λ p. p.1.class) ps) ≡ map {B = Option ClassId × ℕ} (λ p. (p.1.class, at)) ps
 named-ways at [] = refl
 named-ways at (p ∷ ps) = ap (λ zs. (p.1.class, at) ∷ zs) (named-ways at ps)
 
-named-definitions : (at : ℕ) (ps : List (ℕ × OwnDefinition)) → map (λ (k : Option ClassId). (k, at)) (map (λ p. p.1.class) ps) ≡ map (λ p. (p.1.class, at)) ps
+named-definitions : (at : ℕ) (ps : List (ℕ × OwnDefinition)) → map {B = Option ClassId × ℕ} (λ (k : Option ClassId). (k, at)) (map (λ p. p.1.class) ps) ≡ map {B = Option ClassId × ℕ} (λ p. (p.1.class, at)) ps
 named-definitions at [] = refl
 named-definitions at (p ∷ ps) = ap (λ zs. (p.1.class, at) ∷ zs) (named-definitions at ps)
 
@@ -143,8 +143,8 @@ module _ (view : SpillView) (facts : Facts) (answer : UseKey → Option ℕ) (is
         ∙ (sym (assembled s before gap is (map (with_tinies s x) is) p0 ks js (map (given s is) x.ways) (flat_map (tied_reload s) x.definitions) (flat_map (stored s) x.definitions) (own_edits s is (map (with_tinies s x) is)) refl (none-anew s x is))
         ∙ ap (λ zs. with_change s before gap is (record { tinies = zs; before = map (given s is) x.ways ++ flat_map (tied_reload s) x.definitions; own = map (with_tinies s x) is; behind = flat_map (stored s) x.definitions }) p0) (sym tinies-are))
       where
-        tinies-are : map (λ k. (k, at)) (map (λ p. p.1.class) x.ways ++ map (λ p. p.1.class) x.definitions) ≡ ks ++ js
-        tinies-are = map-append (λ (k : Option ClassId). (k, at)) (map (λ p. p.1.class) x.ways) (map (λ p. p.1.class) x.definitions) ∙ (λ j. named-ways at x.ways j ++ named-definitions at x.definitions j)
+        tinies-are : map {B = Option ClassId × ℕ} (λ k. (k, at)) (map (λ p. p.1.class) x.ways ++ map (λ p. p.1.class) x.definitions) ≡ ks ++ js
+        tinies-are = map-append {B = Option ClassId × ℕ} (λ (k : Option ClassId). (k, at)) (map (λ p. p.1.class) x.ways) (map (λ p. p.1.class) x.definitions) ∙ (λ j. named-ways at x.ways j ++ named-definitions at x.definitions j)
 
 -- the same of a place of one instruction
 pub single-planned : (view : SpillView) (facts : Facts) (answer : UseKey → Option ℕ) (i : Instr) (last : ℕ) (gap : Gap) → KnownPlace view facts answer (i ∷ []) last gap → (p0 p1 p2 p3 p4 : Planned) (ways : List IndexedClass) (reads : List ReadTiny) (defs : List DefinedTiny)

@@ -276,3 +276,9 @@ needless-is s n c i e known placed needless = other-is s n c i e known placed �
 
 pub needed-is : (s : Spilling) (n c : ℕ) (i : Instr) (e : Effect) → effect_of s.target i ≡ Some e → is_placed e ≡ true → is_needless s i ≡ false → change s n c (i ∷ []) ≡ place_change s c (i ∷ [])
 needed-is s n c i e known placed needed = other-is s n c i e known placed ∙ ap (λ b. cond b (becomes []) (place_change s c (i ∷ []))) needed
+
+-- its opcode is a known one
+pub has-effect : (view : SpillView) (facts : Facts) (answer : UseKey → Option ℕ) (goes : ℕ → Bool) (w : Spillable view facts answer goes) (p j : ℕ) (b : Block) (i : Instr) → slice_get view.live.now.func.blocks p ≡ Some b → slice_get b.instrs j ≡ Some i → effect_of view.target.now i ≡ None → ⊥
+has-effect view facts answer goes w p j b i is_block is_instr none =
+    let h : passes (λ e. not (is_lowered_away e)) None ≡ true = subst (λ q. passes (λ e. not (is_lowered_away e)) q ≡ true) none (w.may.lowered.lowered b i (block-in view facts answer goes w p j b i is_block is_instr) (instr-in view facts answer goes w p j b i is_block is_instr)) in
+    let z : false ≡ true = h in cc

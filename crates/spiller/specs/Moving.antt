@@ -1,6 +1,8 @@
 -- What is planned where the range is moved from place to place.
-use Rattle.std.specs.Prelude.{◌≡◌, ℕ, true, List, [], ◌∷◌, Option, Some, None, option_map}
+use Rattle.std.specs.Prelude.{◌≡◌, ℕ, Bool, true, false, List, [], ◌∷◌, Option, Some, None, option_map}
 use Rattle.target_base.specs.declared.types.ClassId.{ClassId}
+use Rattle.target_base.specs.declared.types.Effect.{Effect}
+use Rattle.target_base.specs.declared.types.Effect.TheVariants as effects
 use Rattle.target_base.specs.declared.types.Target.{Target}
 use Rattle.mir_func.specs.declared.func.Gap.{Gap}
 use Rattle.mir_func.specs.declared.func.Loc.TheVariants.{Virtual}
@@ -49,3 +51,11 @@ spill_change s n c i o slot = slot_change s n c i o slot (λ own other. through_
 
 abbrev pub reload_change : Spilling → ℕ → ℕ → Instr → RegOp → List Operand → Change
 reload_change s n c i o slot = slot_change s n c i o slot (λ own other. through_tiny s n c i (moving_class s o.index) other own)
+
+-- the effect is none of those whose instructions are changed by themselves
+abbrev pub is_placed : Effect → Bool
+is_placed effects.Copy = false
+is_placed effects.Spill = false
+is_placed effects.Reload = false
+is_placed effects.ImplicitDef = false
+is_placed e = true

@@ -9,12 +9,14 @@ ghost use Rattle.mir_func.specs.declared.func.Instr.{Instr};
 ghost use Rattle.mir_func.specs.declared.func.RegOp.{RegOp};
 ghost use Rattle.mir_func.specs.declared.func.Operand.TheVariants as operands;
 ghost use Rattle.mir_func.specs.declared.func.Block.{Block};
-ghost use Rattle.mir_func.specs.Binding.{does, is_terminator};
+ghost use Rattle.target_base.specs.Rules.{is_implicit_def};
+ghost use Rattle.target_base.specs.declared.types.Effect.{Effect};
+ghost use Rattle.mir_func.specs.Binding.{does, effect_of, is_terminator};
 ghost use Rattle.mir_meaning.specs.Points.{is_range, touches};
 ghost use Rattle.mir_meaning.specs.Registers.{numbers, slot_lane_numbers};
 ghost use Rattle.live_lanes.specs.Looks.{InOrder};
 ghost use Rattle.spiller.specs.Additions.{with_addition};
-ghost use Rattle.spiller.specs.Moving.{IsCopied, copied_from, moved_through, spill_change, reload_change};
+ghost use Rattle.spiller.specs.Moving.{IsCopied, is_placed, copied_from, moved_through, spill_change, reload_change};
 ghost use Rattle.spiller.specs.Planned.{names_own, with_change};
 ghost use Rattle.spiller.specs.Reaching.{Facts};
 ghost use Rattle.spiller.specs.Readings.{goes_in, source_in};
@@ -34,6 +36,8 @@ use mir_func::operands::{class_of, register_at};
 use mir_func::{Instr, Loc, Operand, RegOp};
 use phi_elim::moves::{whole_definition, whole_use};
 use std::alloc::AllocError;
+use target_base::classes::{is_reload, is_spill};
+use target_base::roles::is_copy;
 use target_base::{ClassId, Effect, IndexId, Target};
 
 /// The class of the part that an index picks, of a register of a class.
@@ -126,18 +130,65 @@ pub(crate) fn change_single(
         → OnOk result (planned plan.new ≡ with_change (spilling_of view.entry view.entry.slot facts) (gap_before view.entry instr.now.id) (gap_behind b (slice_get b.instrs (j + 1))) (instr.now ∷ []) (change (spilling_of view.entry view.entry.slot facts) plan.old.next_id plan.old.next_range (instr.now ∷ [])) (planned plan.old)) }
 {
     match effect_of(view.target, instr) {
-        Some(Effect::Copy) => change_copy(view, instr, remat, plan),
-        Some(Effect::Spill) => change_spill(view, instr, plan),
-        Some(Effect::Reload) => change_reload(view, instr, plan),
-        Some(Effect::ImplicitDef) => change_undefined(view, instr, plan),
-        _ => {
-            if remat.is_deleted(instr.id) {
-                plan.erase(instr.id)
-            } else {
-                change_instr(view, instr, remat, plan)
-            }
-        }
+        None => change_other(view, instr, remat, plan),
+        Some(effect) => change_by_effect(view, instr, effect, remat, plan),
     }
+}
+
+/// Whether an instruction of this effect gives a register no value.
+fn is_undefined(effect: Effect) -> bool
+    ensures { result ≡ is_implicit_def effect }
+{
+    match effect {
+        Effect::ImplicitDef => true,
+        _ => false,
+    }
+}
+
+/// Changes the place of one instruction of that effect.
+fn change_by_effect(
+    view: SpillView<'_>,
+    instr: &Instr,
+    effect: Effect,
+    remat: &Remat,
+    plan: &mut Plan,
+) -> Result<(), AllocError>
+    ensures { (facts : Facts) → Spillable view.entry facts (source_in remat.now) (goes_in remat.now)
+        → (p j : ℕ) (b : Block) → slice_get view.entry.live.now.func.blocks p ≡ Some b → slice_get b.instrs j ≡ Some instr.now
+        → does is_terminator view.entry.target.now instr.now ≡ false → touches view.entry.v instr.now ≡ true → effect_of view.entry.target.now instr.now ≡ Some effect
+        → OnOk result (planned plan.new ≡ with_change (spilling_of view.entry view.entry.slot facts) (gap_before view.entry instr.now.id) (gap_behind b (slice_get b.instrs (j + 1))) (instr.now ∷ []) (change (spilling_of view.entry view.entry.slot facts) plan.old.next_id plan.old.next_range (instr.now ∷ [])) (planned plan.old)) }
+{
+    if is_copy(effect) {
+        return change_copy(view, instr, remat, plan);
+    }
+    if is_spill(effect) {
+        return change_spill(view, instr, plan);
+    }
+    if is_reload(effect) {
+        return change_reload(view, instr, plan);
+    }
+    if is_undefined(effect) {
+        return change_undefined(view, instr, plan);
+    }
+    change_other(view, instr, remat, plan)
+}
+
+/// Changes the place of an instruction that is no copy, store or reload and gives its registers values.
+fn change_other(
+    view: SpillView<'_>,
+    instr: &Instr,
+    remat: &Remat,
+    plan: &mut Plan,
+) -> Result<(), AllocError>
+    ensures { (facts : Facts) → Spillable view.entry facts (source_in remat.now) (goes_in remat.now)
+        → (p j : ℕ) (b : Block) → slice_get view.entry.live.now.func.blocks p ≡ Some b → slice_get b.instrs j ≡ Some instr.now
+        → does is_terminator view.entry.target.now instr.now ≡ false → (e : Effect) → effect_of view.entry.target.now instr.now ≡ Some e → is_placed e ≡ true
+        → OnOk result (planned plan.new ≡ with_change (spilling_of view.entry view.entry.slot facts) (gap_before view.entry instr.now.id) (gap_behind b (slice_get b.instrs (j + 1))) (instr.now ∷ []) (change (spilling_of view.entry view.entry.slot facts) plan.old.next_id plan.old.next_range (instr.now ∷ [])) (planned plan.old)) }
+{
+    if remat.is_deleted(instr.id) {
+        return plan.erase(instr.id);
+    }
+    change_instr(view, instr, remat, plan)
 }
 
 /// A copy becomes a reload, a store or both.

@@ -1,7 +1,8 @@
 //! The tinies of a place: one for each way of reading the range, and one for each definition of it.
 
-ghost use Rattle.std.specs.Prelude.{◌≡◌, ◌+◌, ℕ, IfOk, OnOk, true, false, ◌&&◌, nat_eq, find, Some, None, Option, option_map, option_and_then, [], ◌∷◌, ◌++◌, map, flat_map};
+ghost use Rattle.std.specs.Prelude.{◌≡◌, ◌+◌, ℕ, IfOk, OnOk, true, false, ◌&&◌, nat_eq, find, Some, None, Option, option_map, option_and_then, [], ◌∷◌, ◌++◌, map, flat_map, slice_get};
 ghost use Rattle.std.specs.List.{cons_option, list_any, AllByRecursion};
+ghost use Rattle.mir_func.specs.declared.func.Block.{Block};
 ghost use Rattle.mir_func.specs.declared.func.Gap.{Gap};
 ghost use Rattle.mir_func.specs.declared.func.Instr.{Instr};
 ghost use Rattle.mir_func.specs.Binding.{tied_number, numbered, registers};
@@ -9,14 +10,14 @@ ghost use Rattle.mir_meaning.specs.Places.{Variable, each_once};
 ghost use Rattle.live_lanes.specs.Looks.{InOrder};
 ghost use Rattle.live_lanes.specs.Touching.{FindsInstrs};
 ghost use Rattle.spiller.specs.Setting.{is_own};
-ghost use Rattle.spiller.specs.Spilled.{as_tiny, own_definition, numbered_operands, place_change, place_name};
+ghost use Rattle.spiller.specs.Spilled.{as_tiny, own_definition, numbered_operands, change, place_change, place_name};
 ghost use Rattle.spiller.specs.Planned.{with_change};
-ghost use Rattle.spiller.specs.Placing.{KnownPlace, last_name};
+ghost use Rattle.spiller.specs.Placing.{AreTerminators, KnownPlace, Spillable, last_name};
 ghost use Rattle.spiller.specs.Reaching.{Facts};
-ghost use Rattle.spiller.specs.Readings.{source_in};
+ghost use Rattle.spiller.specs.Readings.{goes_in, source_in};
 ghost use Rattle.spiller.specs.Additions.{with_addition, edited, put_into, own_use, own_uses, own_definitions, tied_use, tied_reload_of, tied_reloads, ways_given, definitions_given};
 ghost use Rattle.spiller.specs.Seating.{read_tiny, defined_tiny, defined_as, IsGiven, placed, placed_operand, placed_edits, stored_tiny, IsBehind};
-ghost use Rattle.spiller.specs.Views.{same_way, named_by, way_of, ways_of, tiny_of_way, tiny_by_number, planned, own_setting, gap_before, spilling_of};
+ghost use Rattle.spiller.specs.Views.{same_way, named_by, way_of, ways_of, tiny_of_way, tiny_by_number, planned, own_setting, gap_before, gap_behind, spilling_of};
 
 use crate::plan::{Plan, SpillView, op_of};
 use crate::remat::{Remat, UseKey};
@@ -294,8 +295,11 @@ pub(crate) fn change_terminators(
     remat: &Remat,
     plan: &mut Plan,
 ) -> Result<(), AllocError>
-    ensures { (facts : Facts) (gap : Gap) → KnownPlace view.entry facts (source_in remat.now) instrs.now (last_name instrs.now) gap
+    ensures place { (facts : Facts) (gap : Gap) → KnownPlace view.entry facts (source_in remat.now) instrs.now (last_name instrs.now) gap
         → OnOk result (planned plan.new ≡ with_change (spilling_of view.entry view.entry.slot facts) (gap_before view.entry (place_name instrs.now)) gap instrs.now (place_change (spilling_of view.entry view.entry.slot facts) plan.old.next_range instrs.now) (planned plan.old)) }
+    ensures terminators { (facts : Facts) → Spillable view.entry facts (source_in remat.now) (goes_in remat.now)
+        → (p : ℕ) (b : Block) → slice_get view.entry.live.now.func.blocks p ≡ Some b → AreTerminators view.entry.target.now b instrs.now
+        → OnOk result (planned plan.new ≡ with_change (spilling_of view.entry view.entry.slot facts) (gap_before view.entry (place_name instrs.now)) (gap_behind b None) instrs.now (change (spilling_of view.entry view.entry.slot facts) plan.old.next_id plan.old.next_range instrs.now) (planned plan.old)) }
 {
     let at = place_name(instrs);
     let mut ways = Vec::new(view.alloc);

@@ -17,11 +17,11 @@ returns c facts gap known =
     let i = c.args.instr.now in
     let u = own_setting view in
     let p0 = planned c.args.plan.now in
-    let p1 = planned c.give_ways-reads.new.plan in
+    let p1 = planned c.give_ways.new.plan in
     let ways = c.add_ways.new.ways.items in
     let slice = c.as_slice.ensures.value in
     let found = c.in_ok-add_ways.ensures ∙ ap (λ xs. map (way_of v) xs ++ each_once (map (way_of v) xs) (own_uses view.target.now view.live.now.func v i)) c.new-ways.ensures.items in
-    let reads = ap (λ xs. xs.items) (c.in_ok-define.ensures.reads ∙ c.new-tinies.ensures.reads) ∙ (c.in_ok-reads.ensures.tinies ∙ ap (λ xs. map read_tiny (numbered p0.next_range (map (way_of v) xs))) slice) in
+    let reads = (λ k. ((c.in_ok-define.ensures.reads ∙ c.new-tinies.ensures.reads) k).items) ∙ (c.in_ok-reads.ensures.tinies ∙ ap (λ xs. map read_tiny (numbered p0.next_range (map (way_of v) xs))) slice) in
     let made = c.in_ok-define.ensures.tinies ∙ ap (λ xs. xs ++ map defined_tiny (numbered p1.next_range (own_definitions u i))) c.new-tinies.ensures.definitions in
     on_ok_weaker c.store_all.result (λ four. single-planned view facts (source_in c.args.remat.now) i i.id gap known p0 p1 (planned c.define.new.plan) (planned c.seat.new.plan) (planned c.store_all.new.plan) ways c.define.new.self.reads.items c.define.new.self.definitions.items
       found reads
