@@ -100,3 +100,7 @@ module _ (s : Spilling) (before behind : Gap) (i : Instr) (p r : Planned) where
       go true c e h = refl
       go false true e h = absurd (let z : true ≡ false = e in cc)
       go false false e h = h
+
+-- a plan with a change is one with what the change is
+pub swapped : (s : Spilling) (before behind : Gap) (is : List Instr) (x y : Change) (p q : Planned) → x ≡ y → q ≡ with_change s before behind is y p → q ≡ with_change s before behind is x p
+swapped s before behind is x y p q e h = h ∙ ap (λ z. with_change s before behind is z p) (sym e)

@@ -1,6 +1,6 @@
 -- What is known of the place of one instruction, and what becomes of it by its effect.
-use Rattle.std.proofs.Common.{◌≡◌, ◌∙◌, ℕ, ◌+◌, zero, suc, Bool, true, false, cond, not, ◌&&◌, ◌||◌, List, [], ◌∷◌, Option, Some, None, refl, sym, ap, subst}
-use Rattle.std.specs.Prelude.{pos, option_map, slice_get, take, ℤ}
+use Rattle.std.proofs.Common.{◌≡◌, ◌∙◌, ℕ, ◌+◌, zero, suc, Bool, true, false, cond, not, ◌&&◌, ◌||◌, List, [], ◌∷◌, Option, Some, None, refl, sym, ap, subst, eqb-true}
+use Rattle.std.specs.Prelude.{pos, negsuc, option_map, slice_get, take, ℤ}
 use Rattle.std.specs.List.{AllByRecursion, list_any}
 use Rattle.target_base.specs.declared.types.Effect.{Effect}
 use Rattle.target_base.specs.declared.types.Effect.TheVariants as effects
@@ -21,7 +21,7 @@ use Rattle.mir_func.specs.Value.{Function}
 use Rattle.mir_func.specs.Binding.{does, effect_of, is_lowered_away, is_terminator, passes, registers}
 use Rattle.mir_meaning.specs.Points.{counts, is_range, touches}
 use Rattle.mir_meaning.specs.Places.{Variable}
-use Rattle.mir_meaning.specs.Rules.{V1, copy_fits, fits_role, implicit_def_fits, is_zero, lanes_fit}
+use Rattle.mir_meaning.specs.Rules.{V1, V8, copy_fits, fits_role, implicit_def_fits, is_zero, lanes_fit}
 use Rattle.live_lanes.specs.Looks.{InOrder}
 use Rattle.live_lanes.specs.Touching.{FindsInstrs}
 use Rattle.live_laws.specs.Effects.Shaped.{IsShaped}
@@ -93,8 +93,8 @@ slot-number roles.Slot (operands.Stack m) g h = (m, refl)
 slot-number r x g h = absurd (cc)
 
 zero-is : (z : ℤ) → is_zero z ≡ true → z ≡ pos 0
-zero-is (pos zero) h = refl
-zero-is z h = absurd (cc)
+zero-is (pos n) h = ap pos (eqb-true n 0 h)
+zero-is (negsuc n) h = absurd (cc)
 
 lanes-index : (f : Function) (t : Target) (o : RegOp) (s : Operand) (r : Role) (x : Operand) → is_lanes r ≡ true → fits_role r x ≡ true → lanes_fit t f (operands.Reg o ∷ s ∷ x ∷ []) ≡ true → (y : Option IndexId) × (x ≡ lanes_named y)
 lanes-index f t o s roles.Lanes (operands.Imm z) g h l = (None, ap operands.Imm (zero-is z l))
@@ -157,6 +157,16 @@ single-from t (x ∷ is) (suc j) i e h g = go (does is_terminator t x) h (λ k. 
     go true k ih = absurd (cc)
     go false k ih = later (ih k)
 
+none-before : (a c : Bool) → a ≡ false → (a || not c) ≡ true → c ≡ false
+none-before true c e h = absurd (cc)
+none-before false true e h = absurd (cc)
+none-before false false e h = refl
+
+-- no terminator stands before it
+before-none : (t : Target) (b : Block) (j : ℕ) (i : Instr) → V8 t b j i ≡ true → does is_terminator t i ≡ false → list_any (does is_terminator t) (take j b.instrs) ≡ false
+unfolding V8
+before-none t b j i h g = none-before (does is_terminator t i) (list_any (does is_terminator t) (take j b.instrs)) g h
+
 module _ (view : SpillView) (facts : Facts) (answer : UseKey → Option ℕ) (goes : ℕ → Bool) (w : Spillable view facts answer goes) where
   abbrev t : Target
   t = view.target.now
@@ -218,7 +228,7 @@ module _ (view : SpillView) (facts : Facts) (answer : UseKey → Option ℕ) (go
     pub single-known : (e : Effect) → effect_of t i ≡ Some e → does is_terminator t i ≡ false → is_placed e ≡ true → KnownPlace view facts answer (i ∷ []) i.id (gap_behind b (slice_get b.instrs (j + 1)))
     single-known e known plain placed =
         let lowered : not (is_lowered_away e) ≡ true = subst (λ q. passes (λ x. not (is_lowered_away x)) q ≡ true) known (w.may.lowered.lowered b i (block-in p j b i is_block is_instr) (instr-in p j b i is_block is_instr)) in
-        let none : list_any (does is_terminator t) (take j b.instrs) ≡ false = turn (does is_terminator t i) (list_any (does is_terminator t) (take j b.instrs)) plain (w.may.lowered.terminators b j i (block-in p j b i is_block is_instr) is_instr) in
+        let none = before-none t b j i (w.may.lowered.terminators b j i (block-in p j b i is_block is_instr) is_instr) plain in
         let m = single-from t b.instrs j i is_instr none plain in
         let moves : is_move_place s (i ∷ []) ≡ false = ap (λ q. elim q as (λ q. Bool) [ None ↦ false | Some effects.Copy ↦ true | Some effects.Spill ↦ true | Some x ↦ false ]) known ∙ still e placed in
         record {
@@ -229,11 +239,6 @@ module _ (view : SpillView) (facts : Facts) (answer : UseKey → Option ℕ) (go
           live = (live p j b i is_block is_instr, tt);
           given = given b (i ∷ []) (block-in p j b i is_block is_instr) m moves (ways_read s (i ∷ [])) (λ x h. h);
         }
-      where
-        turn : (a c : Bool) → a ≡ false → (a || not c) ≡ true → c ≡ false
-        turn true c e h = absurd (cc)
-        turn false true e h = absurd (cc)
-        turn false false e h = refl
 
 -- effects by their tests
 

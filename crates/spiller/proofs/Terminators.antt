@@ -98,7 +98,7 @@ pub record IsLast (is all : List Instr) : Type 0 where
 
 nothing-behind : (xs : List Instr) (x : Instr) → slice_get (xs ++ x ∷ []) (length xs + 1) ≡ None
 nothing-behind [] x = refl
-nothing-behind (z ∷ xs) x = nothing-behind xs x
+nothing-behind (z ∷ xs) x = let e : length (z ∷ xs) + 1 ≡ suc (length xs + 1) = omega arith in ap (slice_get ((z ∷ xs) ++ x ∷ [])) e ∙ nothing-behind xs x
 
 last-of : (front is : List Instr) (i : Instr) → IsLast (i ∷ is) (front ++ i ∷ is)
 last-of front [] i = record { place = length front; instr = i; there = behind-front front i []; end = nothing-behind front i; named = refl }
