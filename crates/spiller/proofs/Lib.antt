@@ -7,3 +7,16 @@ pub mod SlotsGiven
 pub mod FirstUnreserved
 pub mod FirstLanes
 pub mod WaysFound
+pub mod ListSeats
+pub mod EditSteps
+pub mod EditMoves
+pub mod PlaceEdits
+pub mod BlockEdits
+pub mod NewInstrs
+pub mod PlaceOutcomes
+pub mod Unnamed
+pub mod ChangeFits
+pub mod WholePlans
+pub mod NeedlessTouched
+pub mod SlotsUsed
+pub mod SpillLaw

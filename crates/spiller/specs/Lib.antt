@@ -8,3 +8,5 @@ pub mod Spilled
 pub mod MaySpill
 pub mod Views
 pub mod Planned
+pub mod WholePlan
+pub mod EditLaw
