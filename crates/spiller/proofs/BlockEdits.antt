@@ -20,6 +20,7 @@ use Rattle.live_edits.specs.Runs.{edits_of}
 use Rattle.spiller.specs.Setting.{Spilling}
 use Rattle.spiller.specs.Rematerialised.{places_from, places_of}
 use Rattle.spiller.specs.Spilled.{Change, all_changes, block_changes, change, changes, new_ids, numbered_change, spilled, spilled_block, tinies_of}
+use Rattle.spiller.specs.EditLaw.{tiny_classes}
 use Rattle.spiller.specs.Planned.{change_edits}
 use Rattle.spiller.specs.WholePlan.{gap_at, instrs_of}
 use Rattle.spiller.proofs.EditMoves.{After, Holds, In, IsAt, Leads, leads-then}
@@ -188,17 +189,13 @@ first-true : (u w : Bool) → u && w ≡ true → u ≡ true
 first-true true w h = refl
 first-true false w h = h
 
-other-number : (f : Function) (k : ℕ) (b : Block) → V5 f k b ≡ true → has_number (block_numbers (take k f.blocks)) b.number ≡ false
+pub other-number : (f : Function) (k : ℕ) (b : Block) → V5 f k b ≡ true → has_number (block_numbers (take k f.blocks)) b.number ≡ false
 unfolding V5
 other-number f k b h = not-true (has_number (block_numbers (take k f.blocks)) b.number) (first-true (not (has_number (block_numbers (take k f.blocks)) b.number)) (list_all (has_number (block_numbers f.blocks)) (successors_of b ++ flat_map named_blocks b.instrs)) h)
 
 -- all edits of the function
 abbrev pub all_edits : Spilling → List CodeEdit
 all_edits s = blocks_edits s s.func.next_id (length s.func.classes) s.func.blocks
-
--- the classes of the tinies
-abbrev pub tiny_classes : Spilling → List (Option ClassId)
-tiny_classes s = map (λ x. x.0) (flat_map tinies_of (all_changes s))
 
 -- they lead from the function, with the classes of the tinies, to the function after the spill
 abbrev pub Spills : Spilling → Holds

@@ -20,3 +20,7 @@ pub mod WholePlans
 pub mod NeedlessTouched
 pub mod SlotsUsed
 pub mod SpillLaw
+pub mod MarkedPlan
+pub mod MarkLoop
+pub mod FurtherShapes
+pub mod NewRanges

@@ -1,5 +1,5 @@
 -- Where the function names the slot behind the spill, a touched place uses it, or the function named it before.
-use Rattle.std.proofs.Common.{◌≡◌, ◌∷◌, ◌++◌, ◌∙◌, ◌+◌, ◌&&◌, ◌||◌, ◌⊎◌, inl, inr, ℕ, Bool, true, false, List, [], flat_map, length, map, refl, sym, ap, subst}
+use Rattle.std.proofs.Common.{◌≡◌, ◌∷◌, ◌++◌, ◌∙◌, ◌+◌, ◌&&◌, ◌||◌, ◌⊎◌, inl, inr, not, ℕ, Bool, true, false, List, [], flat_map, length, map, refl, sym, ap, subst}
 use Rattle.std.specs.List.{list_any, sum_by, zip}
 use Rattle.std.proofs.lemmas.List.Folds.{list_any-append}
 use Rattle.meaning.specs.Live.{Among, here, there}
@@ -44,17 +44,34 @@ module _ (s : Spilling) where
   named-ids n (x ∷ xs) = ap (λ u. names_own_slot s x || u) (named-ids _ xs)
 
   -- ids make no difference
-  whole-uses : (n c : ℕ) (p : List Instr) → named (whole (numbered_change s n c p)) ≡ uses_own_slot s (change s n c p)
-  whole-uses n c p =
+  whole-named : (n c : ℕ) (p : List Instr) → let x = change s n c p in named (whole (numbered_change s n c p)) ≡ named x.before || (named x.own || named x.behind)
+  whole-named n c p =
       let x : Change = change s n c p in
       let first : List Instr = with_ids n x.before in
       let last : List Instr = with_ids (n + length x.before) x.behind in
       named-both first (x.own ++ last)
-      ∙ ((λ k. named-ids n x.before k || (named-both x.own last ∙ ap (λ u. named x.own || u) (named-ids (n + length x.before) x.behind)) k)
-      ∙ sym (named-both x.before (x.own ++ x.behind) ∙ ap (λ u. named x.before || u) (named-both x.own x.behind)))
+      ∙ (λ k. named-ids n x.before k || (named-both x.own last ∙ ap (λ u. named x.own || u) (named-ids (n + length x.before) x.behind)) k)
 
-  becomes-uses : (is : List Instr) → uses_own_slot s (becomes is) ≡ named is
-  becomes-uses is = named-both is [] ∙ go (named is)
+  -- where a place names the slot behind the spill, it uses it, or named it before
+  used-or-named : (p : List Instr) (x : Change) → named x.before || (named x.own || named x.behind) ≡ true → (uses_own_slot s p x ≡ true) ⊎ (named p ≡ true)
+  used-or-named p x h = go (named x.before) (named p) (named x.own) (named x.behind) refl h
+    where
+      go : (a u w b : Bool) → named p ≡ u → a || (w || b) ≡ true → (a || ((not u && w) || b) ≡ true) ⊎ (named p ≡ true)
+      go true u w b e h = inl refl
+      go false true w b e h = inr e
+      go false false w b e h = inl h
+
+  used-named : (p : List Instr) (x : Change) → uses_own_slot s p x ≡ true → named x.before || (named x.own || named x.behind) ≡ true
+  used-named p x h = go (named x.before) (named p) (named x.own) (named x.behind) h
+    where
+      go : (a u w b : Bool) → a || ((not u && w) || b) ≡ true → a || (w || b) ≡ true
+      go true u w b h = refl
+      go false true true b h = refl
+      go false true false b h = h
+      go false false w b h = h
+
+  becomes-named : (is : List Instr) → (named is || false) ≡ named is
+  becomes-named is = go (named is)
     where
       go : (u : Bool) → u || false ≡ u
       go true = refl
@@ -74,30 +91,34 @@ module _ (s : Spilling) where
       d = c + length (change s n c p).tinies
 
       goal : Type 0
-      goal = ((touches_place s p && uses_own_slot s (change s n c p)) || places_use s m d rest ≡ true) ⊎ (named (p ++ instrs_of rest) ≡ true)
+      goal = ((touches_place s p && uses_own_slot s p (change s n c p)) || places_use s m d rest ≡ true) ⊎ (named (p ++ instrs_of rest) ≡ true)
 
       later : (places_use s m d rest ≡ true) ⊎ (named (instrs_of rest) ≡ true) → goal
-      later (inl k) = inl (second-or (touches_place s p && uses_own_slot s (change s n c p)) (places_use s m d rest) k)
+      later (inl k) = inl (second-or (touches_place s p && uses_own_slot s p (change s n c p)) (places_use s m d rest) k)
       later (inr k) = inr (named-both p (instrs_of rest) ∙ second-or (named p) (named (instrs_of rest)) k)
 
       go : (u : Bool) → touches_place s p ≡ u → (named (whole (numbered_change s n c p)) ≡ true) ⊎ (named (flat_map whole (changes s m d rest)) ≡ true) → (named (flat_map whole (changes s m d rest)) ≡ true → (places_use s m d rest ≡ true) ⊎ (named (instrs_of rest) ≡ true)) → goal
       go u e (inr k) more = later (more k)
-      go true e (inl k) more = inl (first-or (touches_place s p && uses_own_slot s (change s n c p)) (places_use s m d rest) ((λ j. e j && uses_own_slot s (change s n c p)) ∙ (sym (whole-uses n c p) ∙ k)))
+      go true e (inl k) more = of (used-or-named p (change s n c p) (sym (whole-named n c p) ∙ k))
+        where
+          of : (uses_own_slot s p (change s n c p) ≡ true) ⊎ (named p ≡ true) → goal
+          of (inl q) = inl (first-or (touches_place s p && uses_own_slot s p (change s n c p)) (places_use s m d rest) ((λ j. e j && uses_own_slot s p (change s n c p)) ∙ q))
+          of (inr q) = inr (named-both p (instrs_of rest) ∙ first-or (named p) (named (instrs_of rest)) q)
       go false e (inl k) more =
           let z : StaysSo s p = stay p here e in
-          inr (named-both p (instrs_of rest) ∙ first-or (named p) (named (instrs_of rest)) (sym (becomes-uses p) ∙ (ap (uses_own_slot s) (sym (z.change_is n c)) ∙ (sym (whole-uses n c p) ∙ k))))
+          inr (named-both p (instrs_of rest) ∙ first-or (named p) (named (instrs_of rest)) (sym (becomes-named p) ∙ (ap (λ (w : Change). named w.before || (named w.own || named w.behind)) (sym (z.change_is n c)) ∙ (sym (whole-named n c p) ∙ k))))
 
   places-used : (n c : ℕ) (ps : List (List Instr)) → places_use s n c ps ≡ true → named (flat_map whole (changes s n c ps)) ≡ true
   places-used n c [] h = h
   places-used n c (p ∷ rest) h =
       let y : Change = numbered_change s n c p in
       let ys : List Change = changes s (n + new_ids y) (c + length y.tinies) rest in
-      named-both (whole y) (flat_map whole ys) ∙ go (either-true (touches_place s p && uses_own_slot s (change s n c p)) (places_use s (n + new_ids y) (c + length y.tinies) rest) h) (places-used (n + new_ids y) (c + length y.tinies) rest)
+      named-both (whole y) (flat_map whole ys) ∙ go (either-true (touches_place s p && uses_own_slot s p (change s n c p)) (places_use s (n + new_ids y) (c + length y.tinies) rest) h) (places-used (n + new_ids y) (c + length y.tinies) rest)
     where
-      go : ((touches_place s p && uses_own_slot s (change s n c p)) ≡ true) ⊎ (places_use s (n + new_ids (numbered_change s n c p)) (c + length (change s n c p).tinies) rest ≡ true)
+      go : ((touches_place s p && uses_own_slot s p (change s n c p)) ≡ true) ⊎ (places_use s (n + new_ids (numbered_change s n c p)) (c + length (change s n c p).tinies) rest ≡ true)
           → (places_use s (n + new_ids (numbered_change s n c p)) (c + length (change s n c p).tinies) rest ≡ true → named (flat_map whole (changes s (n + new_ids (numbered_change s n c p)) (c + length (change s n c p).tinies) rest)) ≡ true)
           → named (whole (numbered_change s n c p)) || named (flat_map whole (changes s (n + new_ids (numbered_change s n c p)) (c + length (change s n c p).tinies) rest)) ≡ true
-      go (inl k) more = first-or (named (whole (numbered_change s n c p))) _ (whole-uses n c p ∙ (both-true (touches_place s p) (uses_own_slot s (change s n c p)) k).1)
+      go (inl k) more = first-or (named (whole (numbered_change s n c p))) _ (whole-named n c p ∙ used-named p (change s n c p) (both-true (touches_place s p) (uses_own_slot s p (change s n c p)) k).1)
       go (inr k) more = second-or (named (whole (numbered_change s n c p))) _ (more k)
 
   -- blocks

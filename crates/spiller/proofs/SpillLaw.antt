@@ -15,7 +15,7 @@ use Rattle.live_laws.proofs.Effects.Lists.{any-in}
 use Rattle.live_lanes.specs.declared.table.Table.{Table}
 use Rattle.lowering_laws.specs.Named.{TouchesItsRanges}
 use Rattle.lowering_laws.specs.Shapes.{IsLowered}
-use Rattle.spiller.specs.EditLaw.{DoSpill, PlansSpill, SpillEditsLaw}
+use Rattle.spiller.specs.EditLaw.{DoSpill, PlansSpill, SpillEditsLaw, tiny_classes}
 use Rattle.spiller.specs.MaySpill.{MaySpill}
 use Rattle.spiller.specs.Reaching.{AreFacts}
 use Rattle.spiller.specs.Setting.{Spilling}
@@ -24,7 +24,7 @@ use Rattle.spiller.specs.Spilled.{names_slot, spilled}
 use Rattle.spiller.specs.Planned.{names_own}
 use Rattle.spiller.specs.Views.{Planned}
 use Rattle.spiller.specs.WholePlan.{touches_place, whole_plan}
-use Rattle.spiller.proofs.BlockEdits.{Spills, all-lead, all_edits, tiny_classes}
+use Rattle.spiller.proofs.BlockEdits.{Spills, all-lead, all_edits}
 use Rattle.spiller.proofs.ChangeFits.{place-fits, place-in}
 use Rattle.spiller.proofs.EditMoves.{After, after-all, after-places, after-spares}
 use Rattle.spiller.proofs.Unnamed.{strange-of, unnamed-change}
@@ -77,6 +77,7 @@ module _ (s : Spilling) (low : IsLowered s.target s.func) (named : (b : Block) (
       let used : (whole_plan s).uses_slot ≡ blocks_use s s.func.next_id (length s.func.classes) s.func.blocks = ap (λ (p : Planned). p.uses_slot) (whole-plan s stay) in
       record {
         edits = do-spill;
+        classes_are = classes-are s stay;
         tinies_are = tinies-are s stay;
         slot_used = λ e. slot-used s (sym used ∙ e);
         slot_known = λ e. still (blocks_use s s.func.next_id (length s.func.classes) s.func.blocks) (whole_plan s).uses_slot (sym used) (slot-known s stay e);

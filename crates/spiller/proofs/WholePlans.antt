@@ -14,9 +14,10 @@ use Rattle.spiller.specs.Setting.{Spilling}
 use Rattle.spiller.specs.Rematerialised.{places_of}
 use Rattle.spiller.specs.Spilled.{Change, all_changes, becomes, block_changes, change, changes, new_ids, numbered_change, spilled, tinies, tinies_of, with_ids}
 use Rattle.spiller.specs.Views.{Planned, no_plan}
+use Rattle.spiller.specs.EditLaw.{tiny_classes}
 use Rattle.spiller.specs.Planned.{change_edits, known_op, names_own, own_edits, uses_own_slot}
 use Rattle.spiller.specs.WholePlan.{gap_at, instrs_of, touches_place, whole_plan, with_blocks, with_place, with_places}
-use Rattle.spiller.proofs.BlockEdits.{all_edits, blocks_edits, new-ids-same, places_edits, tiny_classes}
+use Rattle.spiller.proofs.BlockEdits.{all_edits, blocks_edits, new-ids-same, places_edits}
 
 abbrev pub Tiny : Type 0
 Tiny = Option ClassId × ℕ
@@ -81,7 +82,7 @@ grown-twice p es fs ts us u w k m =
 -- a touched place of these uses the slot
 abbrev pub places_use : Spilling → ℕ → ℕ → List (List Instr) → Bool
 places_use s n c [] = false
-places_use s n c (is ∷ rest) = (touches_place s is && uses_own_slot s (change s n c is)) || places_use s (n + new_ids (numbered_change s n c is)) (c + length (change s n c is).tinies) rest
+places_use s n c (is ∷ rest) = (touches_place s is && uses_own_slot s is (change s n c is)) || places_use s (n + new_ids (numbered_change s n c is)) (c + length (change s n c is).tinies) rest
 
 abbrev pub blocks_use : Spilling → ℕ → ℕ → List Block → Bool
 blocks_use s n c [] = false
@@ -130,7 +131,7 @@ module _ (s : Spilling) (b : Block) where
       es : List CodeEdit
       es = change_edits s (gap_at b (is ++ left)) (gap_at b left) is x
 
-      summed : behind (n + new_ids y) (c + length x.tinies) p es x.tinies (touches_place s is && uses_own_slot s x) (new_ids y) rest ≡ made n c (is ∷ rest) p
+      summed : behind (n + new_ids y) (c + length x.tinies) p es x.tinies (touches_place s is && uses_own_slot s is x) (new_ids y) rest ≡ made n c (is ∷ rest) p
       summed = ap (λ k. grown p (places_edits s b n c (is ∷ rest)) (tinies_of (changes s n c (is ∷ rest))) (places_use s n c (is ∷ rest)) k) (sym (sum_by-cons new_ids y (changes s (n + new_ids y) (c + length x.tinies) rest)))
 
       go : (u : Bool) → touches_place s is ≡ u → ((q : Planned) → with_places s b rest q ≡ made q.next_id q.next_range rest q) → with_places s b rest (cond u (with_place s b is left p) p) ≡ made n c (is ∷ rest) p
@@ -138,17 +139,17 @@ module _ (s : Spilling) (b : Block) where
           let q : Planned = with_place s b is left p in
           let same : new_ids x ≡ new_ids y = sym (new-ids-same s n c is) in
           more q
-          ∙ (grown-twice p es (places_edits s b (n + new_ids x) (c + length x.tinies) rest) x.tinies (tinies_of (changes s (n + new_ids x) (c + length x.tinies) rest)) (uses_own_slot s x) (places_use s (n + new_ids x) (c + length x.tinies) rest) (new_ids x) (sum_by new_ids (changes s (n + new_ids x) (c + length x.tinies) rest))
-          ∙ (ap (λ k. behind (n + k) (c + length x.tinies) p es x.tinies (uses_own_slot s x) k rest) same
-          ∙ (ap (λ u. behind (n + new_ids y) (c + length x.tinies) p es x.tinies (u && uses_own_slot s x) (new_ids y) rest) (sym e)
+          ∙ (grown-twice p es (places_edits s b (n + new_ids x) (c + length x.tinies) rest) x.tinies (tinies_of (changes s (n + new_ids x) (c + length x.tinies) rest)) (uses_own_slot s is x) (places_use s (n + new_ids x) (c + length x.tinies) rest) (new_ids x) (sum_by new_ids (changes s (n + new_ids x) (c + length x.tinies) rest))
+          ∙ (ap (λ k. behind (n + k) (c + length x.tinies) p es x.tinies (uses_own_slot s is x) k rest) same
+          ∙ (ap (λ u. behind (n + new_ids y) (c + length x.tinies) p es x.tinies (u && uses_own_slot s is x) (new_ids y) rest) (sym e)
           ∙ summed)))
       go false e more =
           let z : StaysSo s is = stay is here e in
           let zero-more : n ≡ n + 0 = omega arith in
           let none-more : c ≡ c + 0 = omega arith in
-          let kept : behind (n + 0) (c + 0) p (own_edits s is is ++ []) [] false 0 rest ≡ behind (n + new_ids y) (c + length x.tinies) p es x.tinies (touches_place s is && uses_own_slot s x) (new_ids y) rest =
+          let kept : behind (n + 0) (c + 0) p (own_edits s is is ++ []) [] false 0 rest ≡ behind (n + new_ids y) (c + length x.tinies) p es x.tinies (touches_place s is && uses_own_slot s is x) (new_ids y) rest =
           ap (λ (w : Change). behind (n + (length (with_ids n w.before) + length (with_ids (n + length w.before) w.behind))) (c + length w.tinies) p (change_edits s (gap_at b (is ++ left)) (gap_at b left) is w) w.tinies false (length (with_ids n w.before) + length (with_ids (n + length w.before) w.behind)) rest) (sym (z.change_is n c))
-          ∙ ap (λ u. behind (n + new_ids y) (c + length x.tinies) p es x.tinies (u && uses_own_slot s x) (new_ids y) rest) (sym e) in
+          ∙ ap (λ u. behind (n + new_ids y) (c + length x.tinies) p es x.tinies (u && uses_own_slot s is x) (new_ids y) rest) (sym e) in
           let sum : ℕ = sum_by new_ids (changes s n c rest) in
           let none-first : sum ≡ 0 + sum = omega arith in
           more p

@@ -8,5 +8,8 @@ pub mod Spilled
 pub mod MaySpill
 pub mod Views
 pub mod Planned
+pub mod Readings
 pub mod WholePlan
 pub mod EditLaw
+pub mod Marks
+pub mod Growing

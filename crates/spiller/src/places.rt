@@ -1,6 +1,6 @@
 //! How each kind of place changes when its range is spilled.
 
-ghost use Rattle.std.specs.Prelude.{◌≡◌, ℕ, true, None, List, [], ◌∷◌, length};
+ghost use Rattle.std.specs.Prelude.{OnOk, ◌≡◌, ℕ, true, None, List, [], ◌∷◌, length};
 ghost use Rattle.mir_func.specs.declared.func.Operand.TheVariants as operands;
 ghost use Rattle.mir_meaning.specs.Points.{is_range};
 ghost use Rattle.spiller.specs.Spilled.{is_own_part};
@@ -9,7 +9,12 @@ ghost use Rattle.target_base.specs.Storage.{same_numbers};
 ghost use Rattle.mir_meaning.specs.Registers.{numbers, slot_lane_numbers};
 ghost use Rattle.spiller.specs.Reaching.{Facts};
 ghost use Rattle.spiller.specs.Setting.{class_beside, moving_class, part_class, own_lanes, lanes_named};
-ghost use Rattle.spiller.specs.Views.{spilling_of};
+ghost use Rattle.mir_func.specs.declared.func.Block.{Block as LaidBlock};
+ghost use Rattle.mir_func.specs.declared.func.Instr.{Instr as LaidInstr};
+ghost use Rattle.mir_meaning.specs.Points.{touches};
+ghost use Rattle.spiller.specs.Marks.{IsPlaceIn, MayPlan};
+ghost use Rattle.spiller.specs.Views.{planned, spilling_of};
+ghost use Rattle.spiller.specs.WholePlan.{with_place};
 
 use crate::kinds::{reload_op, spill_op};
 use crate::plan::{Plan, SlotPart, SpillView, definition_of, slot_operands, undef_use, use_of};
@@ -105,7 +110,10 @@ pub(crate) fn change_single(
     instr: &Instr,
     remat: &Remat,
     plan: &mut Plan,
-) -> Result<(), AllocError> {
+) -> Result<(), AllocError>
+    ensures { OnOk result ((facts : Facts) (b : LaidBlock) (left : List LaidInstr) → MayPlan view.entry remat.now facts → IsPlaceIn view.entry.target.now view.entry.live.now.func b (instr.now ∷ []) left → touches view.entry.v instr.now ≡ true
+        → planned plan.new ≡ with_place (spilling_of view.entry view.entry.slot facts) b (instr.now ∷ []) left (planned plan.old)) }
+{
     match effect_of(view.target, instr) {
         Some(Effect::Copy) => change_copy(view, instr, remat, plan),
         Some(Effect::Spill) | Some(Effect::Reload) => change_slot_access(view, instr, plan),

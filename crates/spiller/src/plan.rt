@@ -30,6 +30,8 @@ pub(crate) struct SpillView<'a> {
     pub live: &'a LiveFunc,
     /// The range that is spilled.
     pub v: u32,
+    /// Its slot.
+    pub slot: u32,
 }
 
 /// Edits in order, and the new ranges that they name.
@@ -50,8 +52,8 @@ pub(crate) struct Plan {
 
 impl Plan {
     /// No edits of a function, with the slot of the range and with room for so many edits.
-    pub fn new(view: SpillView<'_>, slot: u32, room: usize) -> Result<Plan, AllocError>
-        ensures slot { IfOk result (λ p. p.slot ≡ slot) }
+    pub fn new(view: SpillView<'_>, room: usize) -> Result<Plan, AllocError>
+        ensures slot { IfOk result (λ p. p.slot ≡ view.entry.slot) }
         ensures plan { length view.entry.live.now.func.classes < 2 ^ 32 → IfOk result (λ p. planned p ≡ no_plan view.entry.live.now.func) }
     {
         let f = view.live.func();
@@ -60,7 +62,7 @@ impl Plan {
             edits: Vec::with_capacity(view.alloc, room)?,
             tinies: Tinies::new(view.alloc),
             classes: Vec::new(view.alloc),
-            slot,
+            slot: view.slot,
             uses_slot: false,
             next_range: u32::try_from(f.classes.len()).unwrap_or(u32::MAX),
             next_id: f.next_id,

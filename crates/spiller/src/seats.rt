@@ -1,9 +1,16 @@
 //! The tinies of a place: one for each way of reading the range, and one for each definition of it.
 
-ghost use Rattle.std.specs.Prelude.{◌≡◌, ℕ, true, false, ◌&&◌, nat_eq, find, Some, None, option_map, option_and_then};
+ghost use Rattle.std.specs.Prelude.{OnOk, List, ◌≡◌, ℕ, true, false, ◌&&◌, nat_eq, find, Some, None, option_map, option_and_then};
+ghost use Rattle.std.specs.List.{list_any};
+ghost use Rattle.mir_func.specs.declared.func.Block.{Block as LaidBlock};
+ghost use Rattle.mir_func.specs.declared.func.Instr.{Instr as LaidInstr};
 ghost use Rattle.mir_func.specs.Binding.{tied_number};
+ghost use Rattle.mir_meaning.specs.Points.{touches};
+ghost use Rattle.spiller.specs.Marks.{IsPlaceIn, MayPlan};
+ghost use Rattle.spiller.specs.Reaching.{Facts};
+ghost use Rattle.spiller.specs.WholePlan.{with_place};
 ghost use Rattle.spiller.specs.Spilled.{as_tiny};
-ghost use Rattle.spiller.specs.Views.{same_way, named_by, ways_of, tiny_of_way, tiny_by_number};
+ghost use Rattle.spiller.specs.Views.{planned, spilling_of, same_way, named_by, ways_of, tiny_of_way, tiny_by_number};
 
 use crate::kinds::spill_op;
 use crate::plan::{Plan, SpillView, op_of, slot_operands};
@@ -98,7 +105,10 @@ pub(crate) fn change_terminators(
     instrs: &[Boxed<Instr>],
     remat: &Remat,
     plan: &mut Plan,
-) -> Result<(), AllocError> {
+) -> Result<(), AllocError>
+    ensures { OnOk result ((facts : Facts) (b : LaidBlock) (left : List LaidInstr) → MayPlan view.entry remat.now facts → IsPlaceIn view.entry.target.now view.entry.live.now.func b instrs.now left → list_any (touches view.entry.v) instrs.now ≡ true
+        → planned plan.new ≡ with_place (spilling_of view.entry view.entry.slot facts) b instrs.now left (planned plan.old)) }
+{
     let (Some(first), Some(last)) = (instrs.first(), instrs.last()) else {
         return Ok(());
     };
