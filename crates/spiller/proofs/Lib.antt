@@ -24,3 +24,4 @@ pub mod MarkedPlan
 pub mod MarkLoop
 pub mod FurtherShapes
 pub mod NewRanges
+pub mod Spills

@@ -122,11 +122,14 @@ pub drop-none : {X : Type 0} (xs : List X) → drop 0 xs ≡ xs
 drop-none [] = refl
 drop-none (x ∷ xs) = refl
 
-pub drop-all : {X : Type 0} (k : ℕ) (xs : List X) → length xs ≤ k → drop k xs ≡ []
+drop-all : {X : Type 0} (k : ℕ) (xs : List X) → length xs ≤ k → drop k xs ≡ []
 drop-all zero [] h = refl
 drop-all (suc k) [] h = refl
 drop-all zero (x ∷ xs) h = absurd (omega (arith, h))
 drop-all (suc k) (x ∷ xs) h = drop-all k xs (omega (arith, h))
+
+pub marks-ended : (ms : List Mark) (ids : List ℕ) (k : ℕ) → ids ≡ mark_ids ms → length ids ≤ k → drop k ms ≡ []
+marks-ended ms ids k e h = drop-all k ms (omega (arith, h, ap length e, length-ids ms))
 
 -- what a computed table tells
 

@@ -1,6 +1,13 @@
 //! The call that spills a range.
 
-ghost use Rattle.std.specs.Prelude.{◌≡◌, ◌<◌, true, cond, [], Some, IfOk, OnOk, drop, length, position};
+ghost use Rattle.std.specs.Prelude.{◌≡◌, ◌<◌, ◌≤◌, ◌+◌, ℕ, true, cond, List, [], Option, Some, IfOk, OnOk, drop, take, get_or, unwrap_or, length, map, position};
+ghost use Rattle.target_base.specs.declared.types.ClassId.{ClassId as RangeClass};
+ghost use Rattle.live_lanes.specs.declared.live.LiveFunc.{LiveFunc};
+ghost use Rattle.live_edits.specs.LiveRuns.{IsExact};
+ghost use Rattle.spiller.specs.Growing.{HasGrown, MayGrow, MaySpillNow};
+ghost use Rattle.spiller.specs.SlotMaps.{slots_of};
+ghost use Rattle.spiller.specs.Slots.{HasFreeSlot, Slots, with_slot};
+ghost use Rattle.spiller.specs.Spilled.{IsSpilled, setting_of};
 ghost use Rattle.std.specs.List.{position_or_len};
 ghost use Rattle.mir_func.specs.Binding.{does, is_terminator};
 ghost use Rattle.live_lanes.specs.Touching.{AreTouched};
@@ -34,9 +41,48 @@ pub fn spill(
     m: &mut Matrix,
     slots: &mut SlotMap,
     v: u32,
-) -> Result<Tinies, RunStop> {
+) -> Result<Tinies, RunStop>
+    ensures ok { IfOk result (λ made. (facts : Facts) → MaySpillNow m.old.live (slots_of slots.old) v facts → IsSpilled m.old.live.target m.old.live.func (slots_of slots.old) v m.new.live.func (slots_of slots.new) (map (λ x. (x.range, x.at)) made)) }
+    ensures exact { OnOk result ((facts : Facts) → MaySpillNow m.old.live (slots_of slots.old) v facts → IsExact m.old.live.target m.new.live.func m.new.live) }
+{
     let touched = m.live().touched(alloc, v)?;
     let plan = plan_spill(alloc, m, slots.own_slot(v), v, touched.as_slice())?;
+    if !has_room(m, &plan) {
+        return Err(RunStop::Ranges);
+    }
+    Ok(do_plan(m, slots, v, plan)?)
+}
+
+/// The number of range numbers that are given.
+fn range_count(m: &Matrix) -> usize
+    ensures { result ≡ length m.now.live.func.classes }
+{
+    m.live().func().classes.len()
+}
+
+/// Whether there are range numbers left for the tinies that are planned.
+fn has_room(m: &Matrix, plan: &Plan) -> bool
+    ensures { result ≡ true → length m.now.live.func.classes + length plan.now.classes.items ≤ 1048576 }
+{
+    if range_count(m).saturating_add(plan.classes.len()) > MOST_RANGES {
+        return false;
+    }
+    true
+}
+
+/// Does what is planned: the range gets its slot, where a store or a reload names it, and the tinies
+/// their numbers, and then the edits are done.
+fn do_plan(
+    m: &mut Matrix,
+    slots: &mut SlotMap,
+    v: u32,
+    plan: Plan,
+) -> Result<Tinies, AllocError>
+    ensures ok { IfOk result (λ made. (facts : Facts) → MaySpillNow m.old.live (slots_of slots.old) v facts → planned plan ≡ whole_plan (setting_of m.old.live.target m.old.live.func (slots_of slots.old) v facts) → length m.old.live.func.classes + length plan.classes.items ≤ 2147483648
+        → IsSpilled m.old.live.target m.old.live.func (slots_of slots.old) v m.new.live.func (slots_of slots.new) (map (λ x. (x.range, x.at)) made)) }
+    ensures exact { OnOk result ((facts : Facts) → MaySpillNow m.old.live (slots_of slots.old) v facts → planned plan ≡ whole_plan (setting_of m.old.live.target m.old.live.func (slots_of slots.old) v facts) → length m.old.live.func.classes + length plan.classes.items ≤ 2147483648
+        → IsExact m.old.live.target m.new.live.func m.new.live) }
+{
     let Plan {
         edits,
         tinies,
@@ -44,16 +90,20 @@ pub fn spill(
         uses_slot,
         ..
     } = plan;
-    let count = m.live().func().classes.len();
-    if count.saturating_add(classes.len()) > MOST_RANGES {
-        return Err(RunStop::Ranges);
-    }
-    if uses_slot {
-        let _ = slots.give(m.live().func(), v)?;
-    }
+    keep_slot(m, slots, v, uses_slot)?;
     make_ranges(m, slots, classes.as_slice())?;
     m.edit_all(edits, Some(v))?;
     Ok(tinies)
+}
+
+/// Gives the range its slot, if it is used.
+fn keep_slot(m: &Matrix, slots: &mut SlotMap, v: u32, uses_slot: bool) -> Result<(), AllocError>
+    ensures { OnOk result (HasFreeSlot (slots_of slots.old) → slots_of slots.new ≡ cond uses_slot (with_slot (slots_of slots.old) v) (slots_of slots.old)) }
+{
+    if uses_slot {
+        let _ = slots.give(m.live().func(), v)?;
+    }
+    Ok(())
 }
 
 /// Makes ranges of these classes, each its own original. Every tiny of a function that is sound has a
@@ -62,11 +112,22 @@ fn make_ranges(
     m: &mut Matrix,
     slots: &mut SlotMap,
     classes: &[Option<ClassId>],
-) -> Result<(), AllocError> {
+) -> Result<(), AllocError>
+    ensures { OnOk result (MayGrow m.old.live (slots_of slots.old) classes.now → HasGrown m.old.live (slots_of slots.old) classes.now m.new.live (slots_of slots.new)) }
+{
     'classes: for class in classes {
-        let tiny = m.fresh(class.unwrap_or(ClassId(0)))?;
-        slots.add_original(tiny)?;
+        make_range(m, slots, class.unwrap_or(ClassId(0)))?;
     }
+    Ok(())
+}
+
+/// Makes one more range.
+fn make_range(m: &mut Matrix, slots: &mut SlotMap, class: ClassId) -> Result<(), AllocError>
+    ensures { OnOk result ((old : LiveFunc) (before : Slots) (cs : List (Option RangeClass)) (k : ℕ) (d : Option RangeClass) (other : RangeClass) → MayGrow old before cs → k < length cs → class ≡ unwrap_or (get_or cs k d) other → HasGrown old before (take k cs) m.old.live (slots_of slots.old)
+        → HasGrown old before (take (k + 1) cs) m.new.live (slots_of slots.new)) }
+{
+    let range = m.fresh(class)?;
+    slots.add_original(range)?;
     Ok(())
 }
 

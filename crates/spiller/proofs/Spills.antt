@@ -1,0 +1,130 @@
+-- A range is spilled where the edits of the plan are done over the classes of its tinies.
+use Rattle.std.proofs.Common.{◌≡◌, ◌++◌, ◌∙◌, ◌+◌, ◌<◌, ◌≤◌, ◌⊎◌, inl, inr, ℕ, zero, suc, Bool, true, false, cond, List, [], ◌∷◌, Option, Some, None, flat_map, length, map, take, refl, sym, ap, subst, arith, length-append}
+use Rattle.std.specs.List.{zip}
+use Rattle.target_base.specs.declared.types.ClassId.{ClassId}
+use Rattle.target_base.specs.declared.types.Target.{Target}
+use Rattle.mir_func.specs.Value.{Function, IsFunction}
+use Rattle.mir_meaning.specs.Registers.{numbers}
+use Rattle.live_lanes.specs.declared.live.LiveFunc.{LiveFunc}
+use Rattle.live_lanes.specs.Doing.{IsComputed}
+use Rattle.live_laws.specs.Effects.Coded.{KeepsRules}
+use Rattle.edit_laws.specs.Deferred.{SpareGone}
+use Rattle.edit_laws.specs.Edits.{Edit, all_edited}
+use Rattle.edit_laws.specs.Further.{KeepsLast, with_classes}
+use Rattle.live_edits.specs.LiveRuns.{IsExact, MayBeEditedLive}
+use Rattle.live_edits.specs.Runs.{HavePlaces, edits_of}
+use Rattle.spiller.specs.EditLaw.{PlansSpill, tiny_classes}
+use Rattle.spiller.specs.Growing.{AreGiven, HasGrown, MayGrow, MaySpillNow}
+use Rattle.spiller.specs.Reaching.{Facts}
+use Rattle.spiller.specs.Setting.{Spilling}
+use Rattle.spiller.specs.Slots.{Slots, original_of, own_slot, slot_of, with_ranges, with_slot}
+use Rattle.spiller.specs.Spilled.{IsSpilled, all_changes, names_slot, setting_of, slots_after, spilled, tinies, tinies_of}
+use Rattle.spiller.specs.Views.{Planned}
+use Rattle.spiller.specs.WholePlan.{whole_plan}
+use Rattle.spiller.proofs.NewRanges.{grown-rules, take-whole}
+use Rattle.spiller.proofs.SpillLaw.{spill-edits-law}
+
+length-both : {X Y : Type 0} (f : X → Y) (g : X → ℕ) (n : ℕ) (xs : List X) → length (zip (numbers n (length xs)) (map g xs)) ≡ length (map f xs)
+length-both f g n [] = refl
+length-both f g n (x ∷ xs) = ap suc (length-both f g (suc n) xs)
+
+pub as-many : (s : Spilling) → length (tinies s) ≡ length (tiny_classes s)
+unfolding tinies
+as-many s = length-both (λ x. x.0) (λ x. x.1) (length s.func.classes) (flat_map tinies_of (all_changes s))
+
+same-originals : (slots : Slots) (v : ℕ) (u : Bool) → (cond u (with_slot slots v) slots).originals ≡ slots.originals
+same-originals slots v false = refl
+same-originals slots v true = go (slot_of slots v)
+  where
+    go : (q : Option ℕ) → (elim q as (λ q. Slots) [ None ↦ record slots { given = slots.given ++ ((original_of slots v, own_slot slots v) ∷ []) } | Some n ↦ slots ]).originals ≡ slots.originals
+    go None = refl
+    go (Some n) = refl
+
+module _ (x : LiveFunc) (slots : Slots) (v : ℕ) (facts : Facts) (now : MaySpillNow x slots v facts) (p : Planned) (is : p ≡ whole_plan (setting_of x.target x.func slots v facts)) where
+  abbrev pub s : Spilling
+  s = setting_of x.target x.func slots v facts
+
+  plans : PlansSpill s p
+  plans = subst (PlansSpill s) (sym is) (spill-edits-law s x.table now.may now.are_facts)
+
+  -- the slots once the range has its slot, where the plan uses it
+  abbrev pub kept : Slots
+  kept = cond p.uses_slot (with_slot slots v) slots
+
+  pub may-grow : length x.func.classes + length p.classes ≤ 2147483648 → MayGrow x kept p.classes
+  may-grow few = record {
+    computed = now.may.computed;
+    rules = now.may.lowered.rules;
+    last = now.may.last;
+    given = subst (AreGiven x.target) (sym plans.classes_are) now.classes;
+    few = few;
+    originals = ap (λ ns. length ns) (same-originals slots v p.uses_slot) ∙ now.originals;
+  }
+
+  pub grown-from : (few : length x.func.classes + length p.classes ≤ 2147483648) (after : Slots) (mid : LiveFunc) (then : Slots) → after ≡ kept → (MayGrow x after p.classes → HasGrown x after p.classes mid then) → HasGrown x kept p.classes mid then
+  grown-from few after mid then e h = subst (λ k. HasGrown x k p.classes mid then) e (h (subst (λ k. MayGrow x k p.classes) (sym e) (may-grow few)))
+
+  slot-same : kept ≡ cond (names_slot s.slot (spilled s)) (with_slot slots v) slots
+  slot-same = go p.uses_slot (names_slot s.slot (spilled s)) refl refl plans.slot_used plans.slot_known
+    where
+      go : (u w : Bool) → p.uses_slot ≡ u → names_slot s.slot (spilled s) ≡ w → (p.uses_slot ≡ true → names_slot s.slot (spilled s) ≡ true) → (names_slot s.slot (spilled s) ≡ true → (p.uses_slot ≡ true) ⊎ (names_slot s.slot s.func ≡ true)) → cond u (with_slot slots v) slots ≡ cond w (with_slot slots v) slots
+      go true true e f h k = refl
+      go true false e f h k = absurd (let z : true ≡ false = sym (h e) ∙ f in cc)
+      go false false e f h k = refl
+      go false true e f h k = by (k f)
+        where
+          by : (p.uses_slot ≡ true) ⊎ (names_slot s.slot s.func ≡ true) → slots ≡ with_slot slots v
+          by (inl q) = absurd (let z : true ≡ false = sym q ∙ e in cc)
+          by (inr q) = sym (now.known q)
+
+  pub count-is : length (spilled s).classes ≡ length x.func.classes + length p.classes
+  unfolding spilled
+  count-is = length-append x.func.classes (tiny_classes s) ∙ ap (λ (cs : List (Option ClassId)). length x.func.classes + length cs) (sym plans.classes_are)
+
+  pub slots-are : with_ranges kept (length p.classes) ≡ slots_after slots s
+  unfolding slots_after
+  slots-are = (λ k. with_ranges (slot-same k) (ap (λ (cs : List (Option ClassId)). length cs) plans.classes_are k)) ∙ ap (with_ranges (cond (names_slot s.slot (spilled s)) (with_slot slots v) slots)) (sym (as-many s))
+
+  module _ (few : length x.func.classes + length p.classes ≤ 2147483648) (mid : LiveFunc) (then : Slots) (has : HasGrown x kept p.classes mid then) (new : LiveFunc) where
+    abbrev es : List Edit
+    es = edits_of p.edits
+
+    abbrev grown : Function
+    grown = with_classes x.func p.classes
+
+    func : mid.func ≡ grown
+    func = has.further.func
+
+    over : (P : Target → Function → Type 0) → P x.target grown → P mid.target mid.func
+    over P h = subst (λ t. P t mid.func) (sym has.target) (subst (P x.target) (sym func) h)
+
+    rules : KeepsRules x.target grown
+    rules = subst (λ cs. KeepsRules x.target (with_classes x.func cs)) (take-whole (length p.classes) p.classes (omega arith)) (grown-rules x kept p.classes (may-grow few) (length p.classes))
+
+    may-edit : MayBeEditedLive mid es
+    may-edit = record {
+      computed = over (λ t f. IsComputed t f mid.table) has.further.computed;
+      rules = over KeepsRules rules;
+      last = over KeepsLast now.may.last;
+      function = over (λ t f. IsFunction f.blocks f.next_id) now.may.lowered.function;
+      blocks = over (λ t f. length f.blocks < 4294967296) now.may.blocks;
+      places = over (λ t f. HavePlaces t f es) plans.edits.places;
+      spare = over (λ t f. SpareGone [] f es) plans.edits.spare;
+    }
+
+    spilled-func : IsExact mid.target (all_edited mid.func es) new → new.func ≡ spilled s
+    spilled-func exact = exact.func ∙ (ap (λ (f : Function). all_edited f es) func ∙ plans.edits.done)
+
+    pub spill-done : (MayBeEditedLive mid es → IsExact mid.target (all_edited mid.func es) new) → IsSpilled x.target x.func slots v new.func then p.tinies
+    spill-done h = record {
+      facts = facts;
+      are_facts = now.are_facts;
+      func = spilled-func (h may-edit);
+      slot = has.ranges ∙ slots-are;
+      tinies = plans.tinies_are;
+    }
+
+    pub spill-exact : (MayBeEditedLive mid es → IsExact mid.target (all_edited mid.func es) new) → IsExact x.target new.func new
+    spill-exact h =
+        let exact = h may-edit in
+        record { func = refl; computed = subst (λ t. IsComputed t new.func new.table) has.target (subst (λ f. IsComputed mid.target f new.table) (sym exact.func) exact.computed) }
