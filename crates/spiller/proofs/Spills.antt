@@ -1,6 +1,8 @@
 -- A range is spilled where the edits of the plan are done over the classes of its tinies.
 use Rattle.std.proofs.Common.{◌≡◌, ◌++◌, ◌∙◌, ◌+◌, ◌<◌, ◌≤◌, ◌⊎◌, inl, inr, ℕ, zero, suc, Bool, true, false, cond, List, [], ◌∷◌, Option, Some, None, flat_map, length, map, take, refl, sym, ap, subst, arith, length-append}
+use Rattle.std.specs.Prelude.{nat_lt}
 use Rattle.std.specs.List.{zip}
+use Rattle.std.proofs.lemmas.Bool.{ltb-true, ltb-false}
 use Rattle.target_base.specs.declared.types.ClassId.{ClassId}
 use Rattle.target_base.specs.declared.types.Target.{Target}
 use Rattle.mir_func.specs.Value.{Function, IsFunction}
@@ -128,3 +130,16 @@ module _ (x : LiveFunc) (slots : Slots) (v : ℕ) (facts : Facts) (now : MaySpil
     spill-exact h =
         let exact = h may-edit in
         record { func = refl; computed = subst (λ t. IsComputed t new.func new.table) has.target (subst (λ f. IsComputed mid.target f new.table) (sym exact.func) exact.computed) }
+
+longer : (s : Spilling) → length s.func.classes ≤ length (spilled s).classes
+unfolding spilled
+longer s = omega (arith, length-append s.func.classes (tiny_classes s))
+
+-- where the plan has too many tinies, so has the function behind the spill
+pub too-many : (x : LiveFunc) (slots : Slots) (v : ℕ) (facts : Facts) → MaySpillNow x slots v facts → (p : Planned) → (length x.func.classes < 4294967296 → p ≡ whole_plan (setting_of x.target x.func slots v facts))
+    → 1048576 < length x.func.classes + length p.classes → 1048576 < length (spilled (setting_of x.target x.func slots v facts)).classes
+too-many x slots v facts now p h many = go (nat_lt (length x.func.classes) 4294967296) refl
+  where
+    go : (u : Bool) → nat_lt (length x.func.classes) 4294967296 ≡ u → 1048576 < length (spilled (setting_of x.target x.func slots v facts)).classes
+    go true e = let n = count-is x slots v facts now p (h (ltb-true (length x.func.classes) 4294967296 e)) in omega (arith, many, n)
+    go false e = let far : 4294967296 ≤ length x.func.classes = ltb-false (length x.func.classes) 4294967296 e in let n = longer (setting_of x.target x.func slots v facts) in omega (arith, far, n)

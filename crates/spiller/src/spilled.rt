@@ -1,13 +1,14 @@
 //! The call that spills a range.
 
-ghost use Rattle.std.specs.Prelude.{◌≡◌, ◌<◌, ◌≤◌, ◌+◌, ℕ, true, cond, List, [], Option, Some, IfOk, OnOk, drop, take, get_or, unwrap_or, length, map, position};
+ghost use Rattle.std.specs.Prelude.{◌≡◌, ◌<◌, ◌≤◌, ◌+◌, ℕ, true, false, cond, IfErr, List, [], Option, Some, IfOk, OnOk, drop, take, get_or, unwrap_or, length, map, position};
 ghost use Rattle.target_base.specs.declared.types.ClassId.{ClassId as RangeClass};
 ghost use Rattle.live_lanes.specs.declared.live.LiveFunc.{LiveFunc};
 ghost use Rattle.live_edits.specs.LiveRuns.{IsExact};
 ghost use Rattle.spiller.specs.Growing.{HasGrown, MayGrow, MaySpillNow};
 ghost use Rattle.spiller.specs.SlotMaps.{slots_of};
 ghost use Rattle.spiller.specs.Slots.{HasFreeSlot, Slots, with_slot};
-ghost use Rattle.spiller.specs.Spilled.{IsSpilled, setting_of};
+ghost use Rattle.spiller.specs.Spilled.{IsSpilled, most_ranges, setting_of, spilled};
+ghost use Rattle.spiller.specs.declared.stop.RunStop.TheVariants as stops;
 ghost use Rattle.std.specs.List.{position_or_len};
 ghost use Rattle.mir_func.specs.Binding.{does, is_terminator};
 ghost use Rattle.live_lanes.specs.Touching.{AreTouched};
@@ -44,6 +45,8 @@ pub fn spill(
 ) -> Result<Tinies, RunStop>
     ensures ok { IfOk result (λ made. (facts : Facts) → MaySpillNow m.old.live (slots_of slots.old) v facts → IsSpilled m.old.live.target m.old.live.func (slots_of slots.old) v m.new.live.func (slots_of slots.new) (map (λ x. (x.range, x.at)) made)) }
     ensures exact { OnOk result ((facts : Facts) → MaySpillNow m.old.live (slots_of slots.old) v facts → IsExact m.old.live.target m.new.live.func m.new.live) }
+    ensures few { OnOk result ((facts : Facts) → MaySpillNow m.old.live (slots_of slots.old) v facts → length (spilled (setting_of m.old.live.target m.old.live.func (slots_of slots.old) v facts)).classes ≤ most_ranges) }
+    ensures ranges { IfErr result (λ e. e ≡ stops.Ranges → (facts : Facts) → MaySpillNow m.old.live (slots_of slots.old) v facts → most_ranges < length (spilled (setting_of m.old.live.target m.old.live.func (slots_of slots.old) v facts)).classes) }
 {
     let touched = m.live().touched(alloc, v)?;
     let plan = plan_spill(alloc, m, slots.own_slot(v), v, touched.as_slice())?;
@@ -62,7 +65,8 @@ fn range_count(m: &Matrix) -> usize
 
 /// Whether there are range numbers left for the tinies that are planned.
 fn has_room(m: &Matrix, plan: &Plan) -> bool
-    ensures { result ≡ true → length m.now.live.func.classes + length plan.now.classes.items ≤ 1048576 }
+    ensures room { result ≡ true → length m.now.live.func.classes + length plan.now.classes.items ≤ 1048576 }
+    ensures full { result ≡ false → 1048576 < length m.now.live.func.classes + length plan.now.classes.items }
 {
     if range_count(m).saturating_add(plan.classes.len()) > MOST_RANGES {
         return false;
