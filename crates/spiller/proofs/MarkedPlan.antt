@@ -106,14 +106,14 @@ module _ (s : Spilling) where
           Some b.number,
           inr refl,
           first-ends ended new (i ∷ is) p (all-ends e h) k
-          ∙ (ap (λ js. with_marks s (Some b.number) more (with_place s b js [] p)) last
-          ∙ ap (λ u. with_marks s (Some b.number) more (cond u (with_place s b (i ∷ is) [] p) p)) (sym k)),
+              ∙ (ap (λ js. with_marks s (Some b.number) more (with_place s b js [] p)) last
+              ∙ ap (λ u. with_marks s (Some b.number) more (cond u (with_place s b (i ∷ is) [] p) p)) (sym k)),
         )
         at-end e last h false k = (
           ended,
           inl refl,
           ap (λ ms. with_marks s ended (ms ++ more) p) (none-marked (i ∷ is) k)
-          ∙ ap (λ u. with_marks s ended more (cond u (with_place s b (i ∷ is) [] p) p)) (sym k),
+              ∙ ap (λ u. with_marks s ended more (cond u (with_place s b (i ∷ is) [] p) p)) (sym k),
         )
 
         behind : (q : Planned) → Leaves ended is q → with_marks s ended (marks (i ∷ is) ++ more) p ≡ with_marks s ended (marks is ++ more) q → q ≡ cond (touches v i || false) (with_place s b (i ∷ []) (instrs_of (places_from t is)) p) p → Rest false

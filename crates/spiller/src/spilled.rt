@@ -26,9 +26,9 @@ use crate::seats::change_terminators;
 use crate::slot_map::SlotMap;
 use crate::stop::RunStop;
 use interference::{Matrix, Tinies};
+use mir_func::Instr;
 use mir_func::opcodes::is_terminator;
 use std::alloc::{AllocError, Global};
-use mir_func::Instr;
 use target_base::{Boxed, ClassId, Target};
 
 /// The most range numbers that are given for one function.
@@ -37,12 +37,7 @@ pub const MOST_RANGES: usize = 1_048_576;
 /// Spills a range: each place that touches it gets ranges of its own, which are answered in order,
 /// uses before definitions. Ranges comes exactly where these would make more range numbers than the
 /// limit. After a refusal the range may have its slot all the same.
-pub fn spill(
-    alloc: Global,
-    m: &mut Matrix,
-    slots: &mut SlotMap,
-    v: u32,
-) -> Result<Tinies, RunStop>
+pub fn spill(alloc: Global, m: &mut Matrix, slots: &mut SlotMap, v: u32) -> Result<Tinies, RunStop>
     ensures ok { IfOk result (λ made. (facts : Facts) → MaySpillNow m.old.live (slots_of slots.old) v facts → IsSpilled m.old.live.target m.old.live.func (slots_of slots.old) v m.new.live.func (slots_of slots.new) (map (λ x. (x.range, x.at)) made)) }
     ensures exact { OnOk result ((facts : Facts) → MaySpillNow m.old.live (slots_of slots.old) v facts → IsExact m.old.live.target m.new.live.func m.new.live) }
     ensures few { OnOk result ((facts : Facts) → MaySpillNow m.old.live (slots_of slots.old) v facts → length (spilled (setting_of m.old.live.target m.old.live.func (slots_of slots.old) v facts)).classes ≤ most_ranges) }
@@ -76,12 +71,7 @@ fn has_room(m: &Matrix, plan: &Plan) -> bool
 
 /// Does what is planned: the range gets its slot, where a store or a reload names it, and the tinies
 /// their numbers, and then the edits are done.
-fn do_plan(
-    m: &mut Matrix,
-    slots: &mut SlotMap,
-    v: u32,
-    plan: Plan,
-) -> Result<Tinies, AllocError>
+fn do_plan(m: &mut Matrix, slots: &mut SlotMap, v: u32, plan: Plan) -> Result<Tinies, AllocError>
     ensures ok { IfOk result (λ made. (facts : Facts) → MaySpillNow m.old.live (slots_of slots.old) v facts → planned plan ≡ whole_plan (setting_of m.old.live.target m.old.live.func (slots_of slots.old) v facts) → length m.old.live.func.classes + length plan.classes.items ≤ 2147483648
         → IsSpilled m.old.live.target m.old.live.func (slots_of slots.old) v m.new.live.func (slots_of slots.new) (map (λ x. (x.range, x.at)) made)) }
     ensures exact { OnOk result ((facts : Facts) → MaySpillNow m.old.live (slots_of slots.old) v facts → planned plan ≡ whole_plan (setting_of m.old.live.target m.old.live.func (slots_of slots.old) v facts) → length m.old.live.func.classes + length plan.classes.items ≤ 2147483648
@@ -255,7 +245,9 @@ fn ends_at<'a>(view: SpillView<'a>, id: u32) -> &'a [Boxed<Instr>]
 fn first_end(target: &Target, instrs: &[Boxed<Instr>]) -> Option<usize>
     ensures { result ≡ position (does is_terminator target.now) instrs.now }
 {
-    instrs.iter().position(|instr| is_terminator(target, instr.get()))
+    instrs
+        .iter()
+        .position(|instr| is_terminator(target, instr.get()))
 }
 
 /// How many instructions stand before the first terminator.
