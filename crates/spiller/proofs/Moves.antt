@@ -1,6 +1,7 @@
 -- What is planned for copies, stores, reloads and definitions without a value is what their changes plan.
 use Rattle.std.proofs.Common.{◌≡◌, ◌∙◌, ℕ, Bool, true, false, cond, not, ◌&&◌, ◌||◌, List, [], ◌∷◌, Option, Some, None, refl, sym, ap, subst}
-use Rattle.std.specs.Prelude.{option_and_then}
+use Rattle.std.specs.Prelude.{OnOk, Ok, Err, option_and_then}
+use Rattle.std.specs.declared.result.Result.{Result}
 use Rattle.std.specs.List.{list_any}
 use Rattle.target_base.specs.declared.types.ClassId.{ClassId}
 use Rattle.target_base.specs.declared.types.IndexId.{IndexId}
@@ -104,3 +105,12 @@ module _ (s : Spilling) (before behind : Gap) (i : Instr) (p r : Planned) where
 -- a plan with a change is one with what the change is
 pub swapped : (s : Spilling) (before behind : Gap) (is : List Instr) (x y : Change) (p q : Planned) → x ≡ y → q ≡ with_change s before behind is y p → q ≡ with_change s before behind is x p
 swapped s before behind is x y p q e h = h ∙ ap (λ z. with_change s before behind is z p) (sym e)
+
+pub then-swapped : {T E : Type 0} (r : Result T E) (s : Spilling) (before behind : Gap) (is : List Instr) (x y : Change) (p q : Planned) → x ≡ y → OnOk r (q ≡ with_change s before behind is y p) → OnOk r (q ≡ with_change s before behind is x p)
+then-swapped (Ok v) s before behind is x y p q e h = swapped s before behind is x y p q e h
+then-swapped (Err v) s before behind is x y p q e h = tt
+
+-- an instruction that goes
+pub then-gone : {T E : Type 0} (r : Result T E) (s : Spilling) (before behind : Gap) (i : Instr) (x : Change) (p q : Planned) → x ≡ becomes [] → OnOk r (q ≡ with_addition (edited (edits.Erase i.id ∷ [])) p) → OnOk r (q ≡ with_change s before behind (i ∷ []) x p)
+then-gone (Ok v) s before behind i x p q e h = swapped s before behind (i ∷ []) x (becomes []) p q e (h ∙ sym (erased s before behind i p))
+then-gone (Err v) s before behind i x p q e h = tt

@@ -13,3 +13,7 @@ pub mod Seating
 pub mod Readings
 pub mod Moving
 pub mod Placing
+pub mod WholePlan
+pub mod EditLaw
+pub mod Marks
+pub mod Growing

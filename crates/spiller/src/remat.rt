@@ -1,13 +1,17 @@
 //! Which readings of a range are rematerialised: the instruction that defines it is repeated in
 //! place of a reload.
 
-ghost use Rattle.std.specs.Prelude.{◌≡◌, ◌&&◌, cond, find, nat_eq};
+ghost use Rattle.std.specs.Prelude.{◌≡◌, ◌&&◌, cond, find, nat_eq, IfOk};
+ghost use Rattle.live_lanes.specs.Touching.{AreTouched};
+ghost use Rattle.spiller.specs.MaySpill.{MaySpill};
+ghost use Rattle.spiller.specs.Planned.{TellsRemat};
+ghost use Rattle.spiller.specs.Reaching.{AreFacts, Facts};
 ghost use Rattle.target_base.specs.Roles.{is_tied};
 ghost use Rattle.target_base.specs.Storage.{is_within};
 ghost use Rattle.mir_func.specs.Binding.{does, passes, operand_class};
 ghost use Rattle.spiller.specs.Rematerialised.{is_constant, definition_class, whole_class, repeatable_class, serves, if_whole, copy_wish, Never, Within};
 ghost use Rattle.spiller.specs.Readings.{source_in, goes_in, same_ways};
-ghost use Rattle.spiller.specs.Views.{wish_of};
+ghost use Rattle.spiller.specs.Views.{spilling_of, wish_of};
 
 use crate::plan::SpillView;
 use crate::reaching::{BlockTouches, RangeTouch, ReadLanes, reach_at_starts, readings_reached};
@@ -127,7 +131,10 @@ fn is_repeatable(target: &Target, instr: &Instr) -> bool
 }
 
 /// Plans what is rematerialised of the range.
-pub(crate) fn plan_remat(view: SpillView<'_>, touched: &[u32]) -> Result<Remat, AllocError> {
+pub(crate) fn plan_remat(view: SpillView<'_>, touched: &[u32]) -> Result<Remat, AllocError>
+    ensures { IfOk result (λ r. (facts : Facts) → MaySpill view.entry.target.now view.entry.live.now.func view.entry.live.now.table view.entry.v → AreTouched view.entry.live.now.table view.entry.v touched.now
+        → AreFacts view.entry.target.now view.entry.live.now.func view.entry.v facts → TellsRemat (spilling_of view.entry view.entry.slot facts) (source_in r) (goes_in r)) }
+{
     let mut remat = Remat {
         readings: Vec::new(view.alloc),
         deleted: Vec::new(view.alloc),

@@ -5,8 +5,8 @@ use Rattle.mir_func.specs.Binding.{numbered}
 use Rattle.mir_meaning.specs.Places.{Variable, each_once}
 use Rattle.spiller.specs.Views.{gap_before, gap_behind, own_setting, planned, spilling_of, way_of}
 use Rattle.spiller.specs.Readings.{goes_in, source_in}
-use Rattle.spiller.proofs.Moves.{swapped}
-use Rattle.spiller.specs.Spilled.{place_name}
+use Rattle.spiller.proofs.Moves.{then-swapped}
+use Rattle.spiller.specs.Spilled.{change, place_change, place_name}
 use Rattle.spiller.proofs.Terminators.{terminators-are, terminators-known}
 use Rattle.spiller.specs.Additions.{own_definitions, own_uses, ways_given, with_addition}
 use Rattle.spiller.specs.Placing.{last_name}
@@ -40,5 +40,5 @@ returns-clause-terminators c facts w p b is_block are =
     let is = c.args.instrs.now in
     let s = spilling_of view view.slot facts in
     let p0 = planned c.args.plan.now in
-    on_ok_weaker c.store_all.result (λ x. swapped s (gap_before view (place_name is)) (gap_behind b None) is _ _ p0 _ (terminators-are s c.args.plan.now.next_id c.args.plan.now.next_range is are.all) x)
-    (returns-clause-place c facts (gap_behind b None) (terminators-known view facts (source_in c.args.remat.now) (goes_in c.args.remat.now) w p b is_block is are))
+    then-swapped c.store_all.result s (gap_before view (place_name is)) (gap_behind b None) is (change s c.args.plan.now.next_id c.args.plan.now.next_range is) (place_change s c.args.plan.now.next_range is) p0 (planned c.store_all.new.plan) (terminators-are s c.args.plan.now.next_id c.args.plan.now.next_range is are.all)
+    (returns-clause-place c facts (gap_behind b None) (terminators-known view facts (source_in c.args.remat.now) (goes_in c.args.remat.now) w p b is_block are))
