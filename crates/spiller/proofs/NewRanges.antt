@@ -82,6 +82,9 @@ none-some x slots cs computed =
       nearly = inl refl;
     }
 
+pub some-renamed : (old : LiveFunc) (slots : Slots) (cs : List (Option ClassId)) (new : LiveFunc) (now then : Slots) → then ≡ now → HasGrownSome old slots cs new now → HasGrownSome old slots cs new then
+some-renamed old slots cs new now then e h = subst (λ w. HasGrownSome old slots cs new w) (sym e) h
+
 module _ (old : LiveFunc) (slots : Slots) (cs : List (Option ClassId)) (may : MayGrow old slots cs) where
   abbrev grown : ℕ → Function
   grown k = with_classes old.func (take k cs)

@@ -1,10 +1,13 @@
 //! The call that spills a range.
 
-ghost use Rattle.std.specs.Prelude.{◌≡◌, ◌<◌, ◌≤◌, ◌+◌, ℕ, true, false, cond, IfErr, List, [], Option, Some, IfOk, OnOk, drop, take, get_or, unwrap_or, length, map, position};
+ghost use Rattle.std.specs.Prelude.{◌≡◌, ◌<◌, ◌≤◌, ◌+◌, ℕ, true, false, cond, IfErr, List, [], Option, Some, IfOk, OnErr, OnOk, drop, take, get_or, unwrap_or, length, map, position};
 ghost use Rattle.target_base.specs.declared.types.ClassId.{ClassId as RangeClass};
 ghost use Rattle.live_lanes.specs.declared.live.LiveFunc.{LiveFunc};
 ghost use Rattle.live_edits.specs.LiveRuns.{IsExact};
-ghost use Rattle.spiller.specs.Growing.{HasGrown, MayGrow, MaySpillNow};
+ghost use Rattle.interference.specs.EditedMatrix.{StandsClear};
+ghost use Rattle.interference.specs.Listed.{KeepsLists};
+ghost use Rattle.spiller.specs.EditLaw.{tiny_classes};
+ghost use Rattle.spiller.specs.Growing.{HasGrown, HasGrownSome, IsLeft, MayGrow, MaySpillNow};
 ghost use Rattle.spiller.specs.SlotMaps.{slots_of};
 ghost use Rattle.spiller.specs.Slots.{HasFreeSlot, Slots, with_slot};
 ghost use Rattle.spiller.specs.Spilled.{IsSpilled, most_ranges, setting_of, spilled};
@@ -36,10 +39,14 @@ pub const MOST_RANGES: usize = 1_048_576;
 
 /// Spills a range: each place that touches it gets ranges of its own, which are answered in order,
 /// uses before definitions. Ranges comes exactly where these would make more range numbers than the
-/// limit. After a refusal the range may have its slot all the same.
+/// limit. After a refusal the range may have its slot all the same, and some of the new ranges may
+/// be there, which no instruction names.
 pub fn spill(alloc: Global, m: &mut Matrix, slots: &mut SlotMap, v: u32) -> Result<Tinies, RunStop>
     ensures ok { IfOk result (λ made. (facts : Facts) → MaySpillNow m.old.live (slots_of slots.old) v facts → IsSpilled m.old.live.target m.old.live.func (slots_of slots.old) v m.new.live.func (slots_of slots.new) (map (λ x. (x.range, x.at)) made)) }
     ensures exact { OnOk result ((facts : Facts) → MaySpillNow m.old.live (slots_of slots.old) v facts → IsExact m.old.live.target m.new.live.func m.new.live) }
+    ensures err { OnErr result ((facts : Facts) → MaySpillNow m.old.live (slots_of slots.old) v facts → IsLeft m.old.live (slots_of slots.old) v (tiny_classes (setting_of m.old.live.target m.old.live.func (slots_of slots.old) v facts)) m.new.live (slots_of slots.new)) }
+    ensures kept { OnOk result ((facts : Facts) → MaySpillNow m.old.live (slots_of slots.old) v facts → KeepsLists m.old → StandsClear m.new → KeepsLists m.new) }
+    ensures refused { OnErr result ((facts : Facts) → MaySpillNow m.old.live (slots_of slots.old) v facts → KeepsLists m.old → KeepsLists m.new) }
     ensures few { OnOk result ((facts : Facts) → MaySpillNow m.old.live (slots_of slots.old) v facts → length (spilled (setting_of m.old.live.target m.old.live.func (slots_of slots.old) v facts)).classes ≤ most_ranges) }
     ensures ranges { IfErr result (λ e. e ≡ stops.Ranges → (facts : Facts) → MaySpillNow m.old.live (slots_of slots.old) v facts → most_ranges < length (spilled (setting_of m.old.live.target m.old.live.func (slots_of slots.old) v facts)).classes) }
 {
@@ -76,6 +83,12 @@ fn do_plan(m: &mut Matrix, slots: &mut SlotMap, v: u32, plan: Plan) -> Result<Ti
         → IsSpilled m.old.live.target m.old.live.func (slots_of slots.old) v m.new.live.func (slots_of slots.new) (map (λ x. (x.range, x.at)) made)) }
     ensures exact { OnOk result ((facts : Facts) → MaySpillNow m.old.live (slots_of slots.old) v facts → planned plan ≡ whole_plan (setting_of m.old.live.target m.old.live.func (slots_of slots.old) v facts) → length m.old.live.func.classes + length plan.classes.items ≤ 2147483648
         → IsExact m.old.live.target m.new.live.func m.new.live) }
+    ensures err { OnErr result ((facts : Facts) → MaySpillNow m.old.live (slots_of slots.old) v facts → planned plan ≡ whole_plan (setting_of m.old.live.target m.old.live.func (slots_of slots.old) v facts) → length m.old.live.func.classes + length plan.classes.items ≤ 2147483648
+        → IsLeft m.old.live (slots_of slots.old) v (tiny_classes (setting_of m.old.live.target m.old.live.func (slots_of slots.old) v facts)) m.new.live (slots_of slots.new)) }
+    ensures kept { OnOk result ((facts : Facts) → MaySpillNow m.old.live (slots_of slots.old) v facts → planned plan ≡ whole_plan (setting_of m.old.live.target m.old.live.func (slots_of slots.old) v facts) → length m.old.live.func.classes + length plan.classes.items ≤ 2147483648
+        → KeepsLists m.old → StandsClear m.new → KeepsLists m.new) }
+    ensures refused { OnErr result ((facts : Facts) → MaySpillNow m.old.live (slots_of slots.old) v facts → planned plan ≡ whole_plan (setting_of m.old.live.target m.old.live.func (slots_of slots.old) v facts) → length m.old.live.func.classes + length plan.classes.items ≤ 2147483648
+        → KeepsLists m.old → KeepsLists m.new) }
 {
     let Plan {
         edits,
@@ -92,7 +105,8 @@ fn do_plan(m: &mut Matrix, slots: &mut SlotMap, v: u32, plan: Plan) -> Result<Ti
 
 /// Gives the range its slot, if it is used.
 fn keep_slot(m: &Matrix, slots: &mut SlotMap, v: u32, uses_slot: bool) -> Result<(), AllocError>
-    ensures { OnOk result (HasFreeSlot (slots_of slots.old) → slots_of slots.new ≡ cond uses_slot (with_slot (slots_of slots.old) v) (slots_of slots.old)) }
+    ensures ok { OnOk result (HasFreeSlot (slots_of slots.old) → slots_of slots.new ≡ cond uses_slot (with_slot (slots_of slots.old) v) (slots_of slots.old)) }
+    ensures err { OnErr result (slots_of slots.new ≡ slots_of slots.old) }
 {
     if uses_slot {
         let _ = slots.give(m.live().func(), v)?;
@@ -107,7 +121,9 @@ fn make_ranges(
     slots: &mut SlotMap,
     classes: &[Option<ClassId>],
 ) -> Result<(), AllocError>
-    ensures { OnOk result (MayGrow m.old.live (slots_of slots.old) classes.now → HasGrown m.old.live (slots_of slots.old) classes.now m.new.live (slots_of slots.new)) }
+    ensures ok { OnOk result (MayGrow m.old.live (slots_of slots.old) classes.now → HasGrown m.old.live (slots_of slots.old) classes.now m.new.live (slots_of slots.new)) }
+    ensures err { OnErr result (MayGrow m.old.live (slots_of slots.old) classes.now → HasGrownSome m.old.live (slots_of slots.old) classes.now m.new.live (slots_of slots.new)) }
+    ensures lists { MayGrow m.old.live (slots_of slots.old) classes.now → KeepsLists m.old → KeepsLists m.new }
 {
     'classes: for class in classes {
         make_range(m, slots, class.unwrap_or(ClassId(0)))?;
@@ -117,8 +133,11 @@ fn make_ranges(
 
 /// Makes one more range.
 fn make_range(m: &mut Matrix, slots: &mut SlotMap, class: ClassId) -> Result<(), AllocError>
-    ensures { OnOk result ((old : LiveFunc) (before : Slots) (cs : List (Option RangeClass)) (k : ℕ) (d : Option RangeClass) (other : RangeClass) → MayGrow old before cs → k < length cs → class ≡ unwrap_or (get_or cs k d) other → HasGrown old before (take k cs) m.old.live (slots_of slots.old)
+    ensures ok { OnOk result ((old : LiveFunc) (before : Slots) (cs : List (Option RangeClass)) (k : ℕ) (d : Option RangeClass) (other : RangeClass) → MayGrow old before cs → k < length cs → class ≡ unwrap_or (get_or cs k d) other → HasGrown old before (take k cs) m.old.live (slots_of slots.old)
         → HasGrown old before (take (k + 1) cs) m.new.live (slots_of slots.new)) }
+    ensures err { OnErr result ((old : LiveFunc) (before : Slots) (cs : List (Option RangeClass)) (k : ℕ) (d : Option RangeClass) (other : RangeClass) → MayGrow old before cs → k < length cs → class ≡ unwrap_or (get_or cs k d) other → HasGrown old before (take k cs) m.old.live (slots_of slots.old)
+        → HasGrownSome old before cs m.new.live (slots_of slots.new)) }
+    ensures lists { (old : LiveFunc) (before : Slots) (cs : List (Option RangeClass)) (k : ℕ) → MayGrow old before cs → k < length cs → HasGrown old before (take k cs) m.old.live (slots_of slots.old) → KeepsLists m.old → KeepsLists m.new }
 {
     let range = m.fresh(class)?;
     slots.add_original(range)?;
