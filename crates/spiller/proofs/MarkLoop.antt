@@ -205,12 +205,12 @@ gap-left b before i left e =
     ap (gap_of b) (ap (λ n. option_map (λ (k : Instr). k.id) (slice_get b.instrs n)) (add-one (length before)) ∙ (ap (λ js. option_map (λ (k : Instr). k.id) (slice_get js (suc (length before)))) e ∙ behind-suc before i left))
 
 number-of : (view : SpillView) (p : ℕ) (b : Block) (before : List Instr) (i : Instr) (left : List Instr) → FindsInstrs view.live.now.table view.live.now.func.blocks → slice_get view.live.now.func.blocks p ≡ Some b → b.instrs ≡ before ++ i ∷ left → block_number view i.id ≡ b.number
-number-of view p b before i left finds there parts =
+number-of view p b before i left found stands parts =
     ap (λ q. elim q as (λ q. ℕ) [ None ↦ 0 | Some c ↦ c.number ])
-    (ap (λ n. slice_get view.live.now.func.blocks n) (finds.homes p b i.id there (subst (λ js. has i.id (ids_of js) ≡ true) (sym parts) (has-seat before i left))) ∙ there)
+    (ap (λ n. slice_get view.live.now.func.blocks n) (found.homes p b i.id stands (subst (λ js. has i.id (ids_of js) ≡ true) (sym parts) (has-seat before i left))) ∙ stands)
 
 gap-first : (view : SpillView) (p : ℕ) (b : Block) (before : List Instr) (i : Instr) (left : List Instr) → FindsInstrs view.live.now.table view.live.now.func.blocks → slice_get view.live.now.func.blocks p ≡ Some b → b.instrs ≡ before ++ i ∷ left → gap_before view i.id ≡ gap_at b (i ∷ left)
-gap-first view p b before i left finds there parts = ap {B = Gap} (λ n. record { block = n; before = Some i.id }) (number-of view p b before i left finds there parts)
+gap-first view p b before i left found stands parts = ap {B = Gap} (λ n. record { block = n; before = Some i.id }) (number-of view p b before i left found stands parts)
 
 pub none-behind : {X : Type 0} (p : X → Bool) (xs : List X) → None ≡ position p xs → length xs ≡ position_or_len p xs
 none-behind p xs e = omega (arith, position_or_len-le p xs, position-None_is p xs (sym e))

@@ -41,4 +41,4 @@ returns-clause-terminators c facts w p b is_block are =
     let s = spilling_of view view.slot facts in
     let p0 = planned c.args.plan.now in
     then-swapped c.store_all.result s (gap_before view (place_name is)) (gap_behind b None) is (change s c.args.plan.now.next_id c.args.plan.now.next_range is) (place_change s c.args.plan.now.next_range is) p0 (planned c.store_all.new.plan) (terminators-are s c.args.plan.now.next_id c.args.plan.now.next_range is are.all)
-    (returns-clause-place c facts (gap_behind b None) (terminators-known view facts (source_in c.args.remat.now) (goes_in c.args.remat.now) w p b is_block are))
+    (returns-clause-place c facts (gap_behind b None) (terminators-known view facts (source_in c.args.remat.now) (goes_in c.args.remat.now) w p b is_block is are))
