@@ -38,3 +38,5 @@ pub mod MarkLoop
 pub mod FurtherShapes
 pub mod NewRanges
 pub mod Spills
+pub mod Told
+pub mod PathsTold

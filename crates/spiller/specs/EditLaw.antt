@@ -9,7 +9,7 @@ use Rattle.edit_laws.specs.Edits.{Edit, all_edited}
 use Rattle.edit_laws.specs.Further.{with_classes}
 use Rattle.live_edits.specs.Runs.{HavePlaces, edits_of}
 use Rattle.spiller.specs.MaySpill.{MaySpill}
-use Rattle.spiller.specs.Reaching.{AreFacts}
+use Rattle.spiller.specs.Reaching.{AreFacts, Facts}
 use Rattle.spiller.specs.Setting.{Spilling}
 use Rattle.spiller.specs.Spilled.{all_changes, names_slot, spilled, tinies, tinies_of}
 use Rattle.spiller.specs.Views.{Planned}
@@ -36,3 +36,7 @@ pub record PlansSpill (s : Spilling) (p : Planned) : Type 0 where
 
 abbrev pub SpillEditsLaw : Type 0
 SpillEditsLaw = (s : Spilling) (x : Table) → MaySpill s.target s.func x s.range → AreFacts s.target s.func s.range s.facts → PlansSpill s (whole_plan s)
+
+-- whatever spilling asks of paths in a function can be told
+abbrev pub FactsLaw : Type 0
+FactsLaw = (t : Target) (f : Function) (x : Table) (v : ℕ) → MaySpill t f x v → (facts : Facts) × AreFacts t f v facts

@@ -19,6 +19,6 @@ mod spilled;
 pub mod stop;
 
 pub use slot_map::SlotMap;
-pub use spill_law::spill_edits_law;
+pub use spill_law::{facts_law, spill_edits_law};
 pub use spilled::{MOST_RANGES, spill};
 pub use stop::{Allocated, RunStop};

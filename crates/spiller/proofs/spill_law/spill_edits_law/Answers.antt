@@ -1,4 +1,3 @@
-use Rattle.spiller.proofs.MarkLoop.{plan-begun}
 use Rattle.spiller.proofs.SpillLaw.{spill-edits-law}
 use Rattle.spiller.proofs.spill_law.spill_edits_law.Goals as goal
 
