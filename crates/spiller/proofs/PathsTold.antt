@@ -1,9 +1,8 @@
 -- Which definitions of a range reach which readings, and where its lanes are live, can be told.
-use Rattle.std.proofs.Common.{◌≡◌, ◌∙◌, ◌⊎◌, inl, inr, ℕ, zero, suc, ◌+◌, ◌<◌, ◌≤◌, Bool, true, false, cond, List, [], ◌∷◌, ◌++◌, Option, Some, None, map, length, drop, refl, sym, ap, subst, arith, eqb-true}
+use Rattle.std.proofs.Common.{◌≡◌, ◌∙◌, ◌⊎◌, inl, inr, ℕ, zero, suc, ◌+◌, ◌<◌, ◌≤◌, Bool, true, false, cond, List, [], ◌∷◌, ◌++◌, Option, Some, None, map, length, drop, refl, sym, ap, subst, arith}
 use Rattle.std.specs.Prelude.{nat_eq, nat_lt, option_map}
-use Rattle.std.proofs.lemmas.Bool.{eq-eqb, ltb-true}
+use Rattle.std.proofs.lemmas.Bool.{ltb-false, ltb-true}
 use Rattle.target_base.specs.declared.types.Target.{Target}
-use Rattle.target_base.proofs.Tests.{first_of_both, second_of_both}
 use Rattle.meaning.specs.declared.types.Lane.{Lane}
 use Rattle.meaning.specs.declared.types.Lane.TheVariants.{VirtualLane, UnitLane, SlotLane}
 use Rattle.meaning.specs.declared.types.Write.{Write}
@@ -65,10 +64,7 @@ drop-same p q xs e h = go (nat_lt p (length xs)) refl
   where
     go : (b : Bool) → nat_lt p (length xs) ≡ b → p ≡ q
     go true k = omega (arith, drop-long p xs (ltb-true p (length xs) k), drop-long q xs h, ap length e)
-    go false k = absurd (omega (arith, ap length (sym e ∙ drop-past p xs (far p (length xs) k)), drop-long q xs h, h))
-      where
-        far : (n m : ℕ) → nat_lt n m ≡ false → m ≤ n
-        far n m k = omega (arith, k)
+    go false k = absurd (omega (arith, ap length (sym e ∙ drop-past p xs (ltb-false p (length xs) k)), drop-long q xs h, h))
 
 -- whether an item writes a lane of a range
 

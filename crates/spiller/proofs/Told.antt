@@ -95,20 +95,23 @@ module _ (S : ℕ → ℕ → Type 0) (told : (p q : ℕ) → Told (S p q)) wher
 
   link-chain : (k p q : ℕ) → link k p q ≡ true → Chain S p q
   link-chain zero p q e = one ((told p q).forth e)
-  link-chain (suc k) p q e = go (one-true (link k p q) (link k p k && link k k q) e)
+  link-chain (suc k) p q e = go (one-true (link k p q) (link k p k && link k k q) e) (link-chain k)
     where
-      go : (link k p q ≡ true) ⊎ ((link k p k && link k k q) ≡ true) → Chain S p q
-      go (inl h) = link-chain k p q h
-      go (inr h) = joined (link-chain k p k (first_of_both (link k p k) (link k k q) h)) (link-chain k k q (second_of_both (link k p k) (link k k q) h))
+      go : (link k p q ≡ true) ⊎ ((link k p k && link k k q) ≡ true) → ((m n : ℕ) → link k m n ≡ true → Chain S m n) → Chain S p q
+      go (inl h) ih = ih p q h
+      go (inr h) ih = joined (ih p k (first_of_both (link k p k) (link k k q) h)) (ih k q (second_of_both (link k p k) (link k k q) h))
 
   step-link : (k p q : ℕ) → S p q → link k p q ≡ true
   step-link zero p q s = (told p q).back s
   step-link (suc k) p q s = left-true (link k p q) (link k p k && link k k q) (step-link k p q s)
 
-  -- by a number below k
+  -- chains below k are joined at a number below k
+  abbrev By : ℕ → Type 0
+  By k = (x y z : ℕ) → y < k → link k x y ≡ true → link k y z ≡ true → link k x z ≡ true
+
   link-by : (k p m q : ℕ) → m < k → link k p m ≡ true → link k m q ≡ true → link k p q ≡ true
   link-by zero p m q h a b = absurd (omega (arith, h))
-  link-by (suc k) p m q h a b = go (nat_eq m k) refl
+  link-by (suc k) p m q h a b = go (nat_eq m k) refl (link-by k)
     where
       to : (m ≡ k) → link k p k ≡ true
       to e = by (one-true (link k p k) (link k p k && link k k k) (subst (λ n. link (suc k) p n ≡ true) e a))
@@ -127,15 +130,15 @@ module _ (S : ℕ → ℕ → Type 0) (told : (p q : ℕ) → Told (S p q)) wher
       through : link k p k ≡ true → link k k q ≡ true → link (suc k) p q ≡ true
       through x y = right-true (link k p q) (link k p k && link k k q) (both-true (link k p k) (link k k q) x y)
 
-      below : m < k → (link k p m ≡ true) ⊎ ((link k p k && link k k m) ≡ true) → (link k m q ≡ true) ⊎ ((link k m k && link k k q) ≡ true) → link (suc k) p q ≡ true
-      below n (inl x) (inl y) = left-true (link k p q) (link k p k && link k k q) (link-by k p m q n x y)
-      below n (inl x) (inr y) = through (link-by k p m k n x (first_of_both (link k m k) (link k k q) y)) (second_of_both (link k m k) (link k k q) y)
-      below n (inr x) (inl y) = through (first_of_both (link k p k) (link k k m) x) (link-by k k m q n (second_of_both (link k p k) (link k k m) x) y)
-      below n (inr x) (inr y) = through (first_of_both (link k p k) (link k k m) x) (second_of_both (link k m k) (link k k q) y)
+      below : By k → m < k → (link k p m ≡ true) ⊎ ((link k p k && link k k m) ≡ true) → (link k m q ≡ true) ⊎ ((link k m k && link k k q) ≡ true) → link (suc k) p q ≡ true
+      below ih n (inl x) (inl y) = left-true (link k p q) (link k p k && link k k q) (ih p m q n x y)
+      below ih n (inl x) (inr y) = through (ih p m k n x (first_of_both (link k m k) (link k k q) y)) (second_of_both (link k m k) (link k k q) y)
+      below ih n (inr x) (inl y) = through (first_of_both (link k p k) (link k k m) x) (ih k m q n (second_of_both (link k p k) (link k k m) x) y)
+      below ih n (inr x) (inr y) = through (first_of_both (link k p k) (link k k m) x) (second_of_both (link k m k) (link k k q) y)
 
-      go : (b : Bool) → nat_eq m k ≡ b → link (suc k) p q ≡ true
-      go true e = through (to (eqb-true m k e)) (from (eqb-true m k e))
-      go false e = below (smaller m k h (λ f. let z : true ≡ false = sym (eq-eqb m k f) ∙ e in cc)) (one-true (link k p m) (link k p k && link k k m) a) (one-true (link k m q) (link k m k && link k k q) b)
+      go : (u : Bool) → nat_eq m k ≡ u → By k → link (suc k) p q ≡ true
+      go true e ih = through (to (eqb-true m k e)) (from (eqb-true m k e))
+      go false e ih = below ih (smaller m k h (λ f. let z : true ≡ false = sym (eq-eqb m k f) ∙ e in cc)) (one-true (link k p m) (link k p k && link k k m) a) (one-true (link k m q) (link k m k && link k k q) b)
         where
           smaller : (m k : ℕ) → m < suc k → (m ≡ k → ⊥) → m < k
           smaller m k h n = omega (arith, h, n)
