@@ -70,6 +70,6 @@ pub change-added : (s : Spilling) (before behind : Gap) (is : List Instr) (x : C
 change-added s before behind is x p =
     let n : new_ids x ≡ 0 + (length x.before + (0 + length x.behind)) = omega arith in
     ap (λ a. with_addition a p) (addition-is
-      (record { edits = change_edits s before behind is x; tinies = x.tinies; uses_slot = uses_own_slot s is x; new = new_ids x })
-      (change_added s before behind is x)
-      refl (sym (append-nil x.tinies)) refl n)
+    (record { edits = change_edits s before behind is x; tinies = x.tinies; uses_slot = uses_own_slot s is x; new = new_ids x })
+    (change_added s before behind is x)
+    refl (sym (append-nil x.tinies)) refl n)

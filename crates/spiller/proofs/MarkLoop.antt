@@ -277,7 +277,7 @@ module _ (view : SpillView) (m : Mark) (may : MaySpill view.target.now view.live
   -- what is planned for one that isn't a terminator
   pub single-planned : (s : Spilling) (ended : Option ℕ) (i : Instr) (old new : Planned) → s.target ≡ view.target.now → i ≡ m.instr → does is_terminator view.target.now i ≡ false
       → ((p j : ℕ) → slice_get bs p ≡ Some m.block → slice_get m.block.instrs j ≡ Some i → touches view.v i ≡ true
-        → new ≡ with_change s (gap_before view i.id) (gap_behind m.block (slice_get m.block.instrs (j + 1))) (i ∷ []) (change s old.next_id old.next_range (i ∷ [])) old)
+      → new ≡ with_change s (gap_before view i.id) (gap_behind m.block (slice_get m.block.instrs (j + 1))) (i ∷ []) (change s old.next_id old.next_range (i ∷ [])) old)
       → new ≡ with_mark s ended m old
   single-planned s ended i old new t q e h =
       let ends : does is_terminator view.target.now m.instr ≡ false = ap (does is_terminator view.target.now) (sym q) ∙ e in

@@ -53,7 +53,7 @@ once-append seen [] ys = ap (λ zs. each_once zs ys) (sym (append-nil seen))
 once-append seen (x ∷ xs) ys = go (list_any (same_use x) seen) (once-append seen xs ys) (once-append (x ∷ seen) xs ys)
   where
     go : (b : Bool) → each_once seen (xs ++ ys) ≡ each_once seen xs ++ each_once (seen ++ each_once seen xs) ys → each_once (x ∷ seen) (xs ++ ys) ≡ each_once (x ∷ seen) xs ++ each_once ((x ∷ seen) ++ each_once (x ∷ seen) xs) ys
-      → cond b (each_once seen (xs ++ ys)) (x ∷ each_once (x ∷ seen) (xs ++ ys)) ≡ cond b (each_once seen xs) (x ∷ each_once (x ∷ seen) xs) ++ each_once (seen ++ cond b (each_once seen xs) (x ∷ each_once (x ∷ seen) xs)) ys
+        → cond b (each_once seen (xs ++ ys)) (x ∷ each_once (x ∷ seen) (xs ++ ys)) ≡ cond b (each_once seen xs) (x ∷ each_once (x ∷ seen) xs) ++ each_once (seen ++ cond b (each_once seen xs) (x ∷ each_once (x ∷ seen) xs)) ys
     go true h k = h
     go false h k = ap (λ zs. x ∷ zs) (k ∙ ap (λ zs. each_once (x ∷ seen) xs ++ zs) (seen-alike ((x ∷ seen) ++ each_once (x ∷ seen) xs) (seen ++ x ∷ each_once (x ∷ seen) xs) ys (λ v. any-moved v x seen (each_once (x ∷ seen) xs))))
 

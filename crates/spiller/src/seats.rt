@@ -452,11 +452,7 @@ impl PlaceTinies {
 
     /// The operands of an instruction with tinies in place of the range.
     #[tactic(auto, using(crate::proofs::Steps::placed_steps))]
-    fn placed_operands(
-        &self,
-        view: SpillView<'_>,
-        instr: &Instr,
-    ) -> Result<Operands, AllocError>
+    fn placed_operands(&self, view: SpillView<'_>, instr: &Instr) -> Result<Operands, AllocError>
         ensures { IfOk result (λ os. os ≡ map (placed_operand (own_setting view.entry) self.now.reads.items self.now.definitions.items instr.now.id) (numbered_operands view.entry.target.now instr.now)) }
     {
         let mut operands = Operands::new(view.alloc);

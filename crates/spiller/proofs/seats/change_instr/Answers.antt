@@ -24,7 +24,7 @@ returns c facts gap known =
     let reads = (λ k. ((c.in_ok-define.ensures.reads ∙ c.new-tinies.ensures.reads) k).items) ∙ (c.in_ok-reads.ensures.tinies ∙ ap (λ xs. map read_tiny (numbered p0.next_range (map (way_of v) xs))) slice) in
     let made = c.in_ok-define.ensures.tinies ∙ ap (λ xs. xs ++ map defined_tiny (numbered p1.next_range (own_definitions u i))) c.new-tinies.ensures.definitions in
     on_ok_weaker c.store_all.result (λ four. single-planned view facts (source_in c.args.remat.now) i i.id gap known p0 p1 (planned c.define.new.plan) (planned c.seat.new.plan) (planned c.store_all.new.plan) ways c.define.new.self.reads.items c.define.new.self.definitions.items
-      found reads
-      (λ sources given. c.in_ok-reads.ensures.plan known.finds sources (subst (λ xs. AllByRecursion (IsGiven view.live.now.func (source_in c.args.remat.now) i.id sources) (map (way_of v) xs)) (sym slice) given) ∙ ap (λ xs. with_addition (ways_given u (gap_before view i.id) i.id sources (numbered p0.next_range (map (way_of v) xs))) p0) slice)
-      made c.in_ok-define.ensures.plan c.in_ok-seat.ensures four)
+    found reads
+    (λ sources given. c.in_ok-reads.ensures.plan known.finds sources (subst (λ xs. AllByRecursion (IsGiven view.live.now.func (source_in c.args.remat.now) i.id sources) (map (way_of v) xs)) (sym slice) given) ∙ ap (λ xs. with_addition (ways_given u (gap_before view i.id) i.id sources (numbered p0.next_range (map (way_of v) xs))) p0) slice)
+    made c.in_ok-define.ensures.plan c.in_ok-seat.ensures four)
     (c.store_all.ensures known.ordered gap known.behind)

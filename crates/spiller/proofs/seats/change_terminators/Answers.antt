@@ -29,9 +29,9 @@ returns-clause-place c facts gap known =
     let reads = (λ k. ((c.in_ok-define_all.ensures.reads ∙ c.new-tinies.ensures.reads) k).items) ∙ (c.in_ok-reads.ensures.tinies ∙ ap (λ xs. map read_tiny (numbered p0.next_range (map (way_of v) xs))) slice) in
     let made = c.in_ok-define_all.ensures.tinies ∙ ap (λ xs. xs ++ map defined_tiny (numbered p1.next_range (flat_map (own_definitions u) is))) c.new-tinies.ensures.definitions in
     on_ok_weaker c.store_all.result (λ four. named-planned view facts (source_in c.args.remat.now) is (last_name is) gap known name c.place_name-at.ensures p0 p1 (planned c.define_all.new.plan) (planned c.seat_all.new.plan) (planned c.store_all.new.plan) ways c.define_all.new.self.reads.items c.define_all.new.self.definitions.items
-      found reads
-      (λ sources given. c.in_ok-reads.ensures.plan known.finds sources (subst (λ xs. AllByRecursion (IsGiven view.live.now.func (source_in c.args.remat.now) name sources) (map (way_of v) xs)) (sym slice) given) ∙ ap (λ xs. with_addition (ways_given u (gap_before view name) name sources (numbered p0.next_range (map (way_of v) xs))) p0) slice)
-      made c.in_ok-define_all.ensures.plan c.in_ok-seat_all.ensures four)
+    found reads
+    (λ sources given. c.in_ok-reads.ensures.plan known.finds sources (subst (λ xs. AllByRecursion (IsGiven view.live.now.func (source_in c.args.remat.now) name sources) (map (way_of v) xs)) (sym slice) given) ∙ ap (λ xs. with_addition (ways_given u (gap_before view name) name sources (numbered p0.next_range (map (way_of v) xs))) p0) slice)
+    made c.in_ok-define_all.ensures.plan c.in_ok-seat_all.ensures four)
     (c.store_all.ensures known.ordered gap (subst (λ n. IsBehind view n gap) (sym c.last_name.ensures) known.behind))
 
 pub returns-clause-terminators : goal.returns-clause-terminators

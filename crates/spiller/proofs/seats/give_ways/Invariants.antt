@@ -20,6 +20,6 @@ invariant-ways l =
     record {
       tinies : l.reads.items ≡ map read_tiny ps;
       plan : FindsInstrs l.view.live.now.table f.blocks → (sources : Variable → Option Instr) → AllByRecursion (IsGiven f (source_in l.remat) l.at sources) (map (way_of v) l.ways)
-        → planned l.plan ≡ with_addition (ways_given (own_setting l.view) (gap_before l.view l.at) l.at sources ps) (planned l.fn.plan);
+          → planned l.plan ≡ with_addition (ways_given (own_setting l.view) (gap_before l.view l.at) l.at sources ps) (planned l.fn.plan);
       next : l.plan.next_range ≡ l.fn.plan.next_range + l.way-index;
     }
