@@ -2,18 +2,17 @@
 use Rattle.std.proofs.Common.{◌≡◌, ◌∙◌, ℕ, suc, ◌+◌, Bool, true, false, List, [], ◌∷◌, ◌++◌, length, map, refl, sym, ap, arith, append_assoc}
 use Rattle.std.proofs.lemmas.List.{append-nil, map-append, length-append}
 use Rattle.std.specs.Prelude.{◌||◌, Option}
-use Rattle.std.specs.List.{zip, list_any}
+use Rattle.std.specs.List.{zip}
 use Rattle.std.proofs.lemmas.List.Folds.{list_any-append}
 use Rattle.target_base.specs.declared.types.ClassId.{ClassId}
 use Rattle.mir_func.specs.declared.func.Gap.{Gap}
 use Rattle.mir_func.specs.declared.func.Instr.{Instr}
 use Rattle.mir_meaning.specs.Registers.{numbers}
-use Rattle.live_edits.specs.declared.edit.Edit.{Edit}
 use Rattle.spiller.specs.Setting.{Spilling}
 use Rattle.spiller.specs.Spilled.{Change, new_ids}
 use Rattle.spiller.specs.Views.{Planned}
-use Rattle.spiller.specs.Planned.{change_edits, names_own_slot, put_all, uses_own_slot, with_change}
-use Rattle.spiller.specs.Additions.{Addition, both, change_added, edited, put_into, ranges_made, with_addition}
+use Rattle.spiller.specs.Planned.{change_edits, names_own_slot, uses_own_slot, with_change}
+use Rattle.spiller.specs.Additions.{Addition, both, change_added, put_into, with_addition}
 
 -- plans with the same parts
 pub plan-is : (p q : Planned) → p.edits ≡ q.edits → p.tinies ≡ q.tinies → p.classes ≡ q.classes → p.uses_slot ≡ q.uses_slot → p.next_range ≡ q.next_range → p.next_id ≡ q.next_id → p ≡ q

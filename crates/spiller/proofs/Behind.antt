@@ -1,6 +1,6 @@
 -- Lanes that are left to be looked at, repeated instructions, and the gap behind an instruction.
-use Rattle.std.proofs.Common.{◌≡◌, ◌∙◌, ℕ, ◌+◌, ◌-◌, ◌<◌, zero, suc, Bool, true, false, ◌||◌, List, [], ◌∷◌, Option, Some, None, drop, refl, sym, ap, arith}
-use Rattle.std.specs.Prelude.{nat_eq, option_map, slice_get, slice_index}
+use Rattle.std.proofs.Common.{◌≡◌, ◌∙◌, ℕ, ◌+◌, ◌-◌, ◌<◌, suc, Bool, true, false, ◌||◌, List, [], ◌∷◌, Option, Some, None, drop, sym, ap, arith}
+use Rattle.std.specs.Prelude.{option_map, slice_get, slice_index}
 use Rattle.std.specs.List.{list_any}
 use Rattle.target_base.specs.declared.types.OpId.{OpId}
 use Rattle.mir_func.specs.declared.func.Gap.{Gap}

@@ -1,14 +1,13 @@
 -- The edits of all places make the function after the spill, where they can make what becomes of each place.
-use Rattle.std.proofs.Common.{◌≡◌, ◌∷◌, ◌++◌, ◌∙◌, ◌+◌, ◌<◌, ◌&&◌, not, ℕ, suc, Bool, true, false, cond, List, [], Option, Some, refl, sym, ap, subst, length, map, take, arith, append_assoc, append-nil}
+use Rattle.std.proofs.Common.{◌≡◌, ◌∷◌, ◌++◌, ◌∙◌, ◌+◌, ◌<◌, ◌&&◌, not, ℕ, suc, Bool, true, false, cond, List, [], Some, refl, sym, ap, subst, length, map, take, arith, append_assoc, append-nil}
 use Rattle.std.specs.Prelude.{flat_map, slice_get}
 use Rattle.std.specs.List.{list_all, sum_by, zip}
 use Rattle.std.proofs.lemmas.List.Sums.{sum_by-cons}
-use Rattle.target_base.specs.declared.types.ClassId.{ClassId}
 use Rattle.target_base.specs.declared.types.Target.{Target}
 use Rattle.meaning.specs.Live.{Among, here, there}
 use Rattle.mir_func.specs.declared.func.Block.{Block}
 use Rattle.mir_func.specs.declared.func.Instr.{Instr}
-use Rattle.mir_func.specs.Value.{Function, IsFunction, id_count, id_total}
+use Rattle.mir_func.specs.Value.{Function, IsFunction, id_total}
 use Rattle.mir_func.specs.Binding.{does, is_terminator}
 use Rattle.mir_meaning.specs.Paths.{has}
 use Rattle.mir_meaning.specs.Registers.{has_number}
@@ -23,7 +22,7 @@ use Rattle.spiller.specs.Spilled.{Change, all_changes, block_changes, change, ch
 use Rattle.spiller.specs.EditLaw.{tiny_classes}
 use Rattle.spiller.specs.Planned.{change_edits}
 use Rattle.spiller.specs.WholePlan.{gap_at, instrs_of}
-use Rattle.spiller.proofs.EditMoves.{After, Holds, In, IsAt, Leads, leads-then}
+use Rattle.spiller.proofs.EditMoves.{After, Holds, In, Leads, leads-then}
 use Rattle.spiller.proofs.EditSteps.{Single, total-first}
 use Rattle.spiller.proofs.PlaceEdits.{Fits, edits-both, length-ids, place-lead, placed}
 

@@ -1,11 +1,10 @@
 -- Edits can make what becomes of each place.
-use Rattle.std.proofs.Common.{◌≡◌, ◌∷◌, ◌++◌, ◌∙◌, ◌&&◌, ◌||◌, not, ℕ, Bool, true, false, cond, List, [], Option, Some, None, filter, flat_map, map, refl, sym, ap, subst}
-use Rattle.std.specs.Prelude.{nat_eq, slice_get}
+use Rattle.std.proofs.Common.{◌≡◌, ◌∷◌, ◌∙◌, ◌||◌, not, ℕ, Bool, true, false, cond, List, [], Option, Some, None, filter, flat_map, map, refl, sym, ap, subst}
+use Rattle.std.specs.Prelude.{nat_eq}
 use Rattle.std.specs.List.{list_any}
 use Rattle.target_base.specs.declared.types.ClassId.{ClassId}
 use Rattle.target_base.specs.declared.types.Effect.{Effect}
 use Rattle.target_base.specs.declared.types.Effect.TheVariants as effects
-use Rattle.target_base.specs.declared.types.OpId.{OpId}
 use Rattle.target_base.specs.declared.types.Target.{Target}
 use Rattle.target_base.specs.Roles.{is_silent}
 use Rattle.target_base.specs.Rules.{is_phi}
@@ -14,24 +13,23 @@ use Rattle.mir_func.specs.declared.func.Block.{Block}
 use Rattle.mir_func.specs.declared.func.Instr.{Instr}
 use Rattle.mir_func.specs.declared.func.Loc.TheVariants.{Virtual}
 use Rattle.mir_func.specs.declared.func.Op.{Op}
-use Rattle.mir_func.specs.declared.func.Op.TheVariants as ops
 use Rattle.mir_func.specs.declared.func.Operand.{Operand}
 use Rattle.mir_func.specs.declared.func.Operand.TheVariants as operands
 use Rattle.mir_func.specs.declared.func.RegOp.{RegOp}
 use Rattle.mir_func.specs.Binding.{TiedPair, does, effect_of, is_lowered_away, is_terminator, passes, registers}
 use Rattle.mir_meaning.specs.Places.{Variable}
 use Rattle.mir_meaning.specs.Rules.{V8}
-use Rattle.instr_effects.proofs.Members.{either-elim, filter-of, flat-of, map-of, member-elim, member-none}
-use Rattle.edit_laws.specs.Edits.{IsPlain, StaysPlain}
+use Rattle.instr_effects.proofs.Members.{either-elim, flat-of, map-of, member-elim, member-none}
+use Rattle.edit_laws.specs.Edits.{IsPlain}
 use Rattle.lowering_laws.specs.Shapes.{IsLowered}
 use Rattle.lowering_laws.proofs.BlockRules.{ordered}
 use Rattle.spiller.specs.Setting.{Spilling, in_own_slot, is_live_behind, is_own, plain_definition, plain_use, reload, store}
-use Rattle.spiller.specs.Rematerialised.{Wish, Never, Within, Holding, copy_reading, if_serves, is_constant, places_from, places_of, reaches, reaching, repeatable_class, repeated, repeated_for, serves, tied_readings, way_reading, ways_read, whole_class}
+use Rattle.spiller.specs.Rematerialised.{Wish, Never, Within, Holding, copy_reading, if_serves, is_constant, places_from, places_of, reaching, repeatable_class, repeated, repeated_for, serves, tied_readings, way_reading, whole_class}
 use Rattle.spiller.specs.Spilled.{Change, OwnDefinition, Seats, change, given, in_place_of, seats_from, stored, tied_reload, with_tinies}
-use Rattle.spiller.specs.Planned.{known_op, names_own}
-use Rattle.spiller.proofs.NewInstrs.{constant-is-plain, known-op, op-of, plain-of, reload-new, repeated-new, store-new}
+use Rattle.spiller.specs.Planned.{names_own}
+use Rattle.spiller.proofs.NewInstrs.{known-op, op-of, plain-of, reload-new, repeated-new, store-new}
 use Rattle.spiller.proofs.PlaceEdits.{AllBecome, AllNew, Becomes, Fits, IsNew}
-use Rattle.spiller.proofs.PlaceOutcomes.{Outcome, Passes, Replaces, from_range, goes, is_placed, ordered-by, passed, place-outcome, reloaded_on, repeats, replaced, seated, stays, stored_on, to_range, undefined, within}
+use Rattle.spiller.proofs.PlaceOutcomes.{Outcome, Passes, Replaces, from_range, goes, ordered-by, passed, place-outcome, reloaded_on, repeats, replaced, seated, stays, stored_on, to_range, undefined, within}
 use Rattle.spiller.proofs.Unnamed.{stays-itself, strange-of}
 
 -- the instruction that is repeated for a reading is a constant

@@ -1,5 +1,5 @@
 -- What is planned for a place, in its parts, is what its change plans.
-use Rattle.std.proofs.Common.{◌≡◌, ◌∙◌, ℕ, ◌+◌, suc, Bool, true, false, cond, not, ◌&&◌, ◌||◌, List, [], ◌∷◌, ◌++◌, Option, Some, None, length, map, refl, sym, ap, arith, append_assoc}
+use Rattle.std.proofs.Common.{◌≡◌, ◌∙◌, ℕ, ◌+◌, Bool, true, false, cond, not, ◌&&◌, ◌||◌, List, [], ◌∷◌, ◌++◌, Option, Some, None, length, refl, sym, ap, arith, append_assoc}
 use Rattle.std.specs.Prelude.{nat_eq, option_and_then}
 use Rattle.std.specs.List.{list_any}
 use Rattle.std.proofs.lemmas.Bool.{eq-eqb}
@@ -24,7 +24,7 @@ use Rattle.spiller.specs.Views.{Planned}
 use Rattle.spiller.specs.Planned.{change_edits, known_op, names_own, names_own_slot, names_slot_anew, own_edits, put_all, uses_own_slot, with_change}
 use Rattle.spiller.specs.Additions.{Addition, both, edited, put_into, ranges_made, slot_named, with_addition}
 use Rattle.spiller.specs.Moving.{moved_through}
-use Rattle.spiller.proofs.Added.{addition-is, or-more, or-true, then-added}
+use Rattle.spiller.proofs.Added.{addition-is, or-true, then-added}
 
 -- a change by its parts
 pub changed : (s : Spilling) (before behind : Gap) (is : List Instr) (x : Change) (p : Planned) (a : Addition) → change_edits s before behind is x ≡ a.edits → x.tinies ≡ a.tinies → uses_own_slot s is x ≡ a.uses_slot → new_ids x ≡ a.new → with_change s before behind is x p ≡ with_addition a p

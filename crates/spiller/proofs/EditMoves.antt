@@ -1,14 +1,13 @@
 -- Edits lead from one state of a function to another: each has its place, and none changes what is erased.
-use Rattle.std.proofs.Common.{◌≡◌, ◌≢◌, ◌∷◌, ◌++◌, ◌∙◌, ◌+◌, ◌≤◌, ◌<◌, ℕ, zero, suc, Bool, true, false, cond, List, [], Option, Some, None, refl, sym, ap, subst, length, arith, eq-eqb, eqb-true}
+use Rattle.std.proofs.Common.{◌≡◌, ◌≢◌, ◌∷◌, ◌++◌, ◌∙◌, ◌+◌, ◌<◌, ℕ, Bool, true, false, cond, List, [], Some, refl, sym, ap, subst, arith, eq-eqb, eqb-true}
 use Rattle.std.specs.Prelude.{nat_eq}
 use Rattle.std.proofs.lemmas.Option.{same_Some}
 use Rattle.target_base.specs.declared.types.OpId.{OpId}
 use Rattle.target_base.specs.declared.types.Target.{Target}
-use Rattle.meaning.specs.Live.{Among}
 use Rattle.mir_func.specs.declared.func.Block.{Block}
 use Rattle.mir_func.specs.declared.func.Instr.{Instr}
 use Rattle.mir_func.specs.declared.func.Operand.{Operand}
-use Rattle.mir_func.specs.Value.{Function, IsFunction, id_count, id_total}
+use Rattle.mir_func.specs.Value.{Function, id_count, id_total}
 use Rattle.mir_func.specs.Edits.{deleted, inserted, made}
 use Rattle.mir_meaning.specs.Paths.{has}
 use Rattle.mir_meaning.specs.Registers.{has_number}

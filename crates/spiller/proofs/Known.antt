@@ -1,13 +1,13 @@
 -- What is known of an instruction of a function that may be spilled in.
-use Rattle.std.proofs.Common.{◌≡◌, ◌∙◌, ℕ, ◌+◌, zero, suc, Bool, true, false, cond, not, ◌&&◌, List, [], ◌∷◌, ◌++◌, Option, Some, None, flat_map, map, refl, sym, ap, subst, arith}
-use Rattle.std.specs.Prelude.{◌↔◌, Decides, filter, filter_map, option_and_then, option_map, slice_get}
+use Rattle.std.proofs.Common.{◌≡◌, ◌∙◌, ℕ, ◌+◌, suc, Bool, true, false, cond, not, ◌&&◌, List, [], ◌∷◌, ◌++◌, Some, None, flat_map, refl, sym, ap, subst, arith}
+use Rattle.std.specs.Prelude.{◌↔◌, Decides, filter_map, option_and_then, slice_get}
 use Rattle.std.specs.List.{AllByRecursion, cons_option, list_all}
 use Rattle.target_base.specs.declared.types.Effect.{Effect}
 use Rattle.target_base.specs.declared.types.Role.{Role}
 use Rattle.target_base.specs.declared.types.Target.{Target}
 use Rattle.target_base.specs.Roles.{is_silent}
 use Rattle.target_base.proofs.Tests.{first_of_both, second_of_both}
-use Rattle.meaning.specs.Live.{Among as Member, here as first, there as later}
+use Rattle.meaning.specs.Live.{Among as Member, here as first}
 use Rattle.meaning.specs.declared.types.Lane.TheVariants.{VirtualLane}
 use Rattle.mir_func.specs.declared.func.RegOp.{RegOp}
 use Rattle.mir_func.specs.declared.func.Operand.{Operand}
@@ -15,9 +15,8 @@ use Rattle.mir_func.specs.declared.func.Operand.TheVariants as operands
 use Rattle.mir_func.specs.declared.func.Instr.{Instr}
 use Rattle.mir_func.specs.declared.func.Block.{Block}
 use Rattle.mir_func.specs.Value.{Function}
-use Rattle.mir_func.specs.Binding.{Bound, after_first, as_register, effect_of, explicit_bound, explicit_roles, first_role, implicit_registers, is_virtual, numbered, operand_class, register_at, roles_of}
+use Rattle.mir_func.specs.Binding.{after_first, as_register, effect_of, explicit_bound, explicit_roles, first_role, implicit_registers, is_virtual, numbered, operand_class, register_at, roles_of}
 use Rattle.mir_func.proofs.Bound.{bound_step, bound_none}
-use Rattle.mir_meaning.specs.Points.{Exit, LiveAt}
 use Rattle.instr_effects.specs.declared.owner.Owner.TheVariants as owners
 use Rattle.instr_effects.specs.Numbered.{number_in}
 use Rattle.instr_effects.proofs.Members.{filter-of, flat-of, member-elim, member-none}
@@ -31,7 +30,7 @@ use Rattle.lowering_laws.proofs.Rolled.{fit-operands}
 use Rattle.spiller.specs.Reaching.{Facts, AreFacts}
 use Rattle.spiller.specs.Setting.{Spilling, is_own}
 use Rattle.spiller.specs.Rematerialised.{Reading, Wish, if_serves, reaches, reaching, repeatable_class, repeated_for, serves}
-use Rattle.spiller.specs.Spilled.{OwnDefinition, definitions_in, numbered_operands, own_definition}
+use Rattle.spiller.specs.Spilled.{OwnDefinition, definitions_in, own_definition}
 use Rattle.spiller.specs.Views.{IsThere}
 use Rattle.spiller.specs.Placing.{IsPlainForm}
 

@@ -1,5 +1,5 @@
 -- The plan is made along the instructions that touch the range, by their ids.
-use Rattle.std.proofs.Common.{◌≡◌, ◌∷◌, ◌++◌, ◌∙◌, ◌+◌, ◌<◌, ◌≤◌, not, ℕ, zero, suc, Bool, true, false, cond, List, [], Option, Some, None, filter, flat_map, length, get_or, drop, map, refl, sym, ap, subst, arith, add-one, one-add, append_assoc, append-nil}
+use Rattle.std.proofs.Common.{◌≡◌, ◌∷◌, ◌++◌, ◌∙◌, ◌+◌, ◌<◌, ◌≤◌, not, ℕ, zero, suc, Bool, true, false, cond, List, [], Option, Some, None, filter, flat_map, length, get_or, drop, map, refl, sym, ap, subst, arith, add-one, one-add, append_assoc}
 use Rattle.std.specs.Prelude.{IfOk, OnOk, Ok, Err, ◌&&◌, ◌||◌, option_map, position, slice_get, slice_index}
 use Rattle.std.specs.declared.result.Result.{Result}
 use Rattle.std.proofs.lemmas.Option.{same_Some}
@@ -19,7 +19,7 @@ use Rattle.mir_meaning.specs.Rules.{V8}
 use Rattle.instr_effects.proofs.Members.{flat-of, member-elim, member-none}
 use Rattle.live_edits.proofs.RunPlaces.{member-place, place-member}
 use Rattle.live_lanes.specs.Ordered.{ids_of}
-use Rattle.live_lanes.specs.Tells.{TellsInstrs, touching_ids}
+use Rattle.live_lanes.specs.Tells.{TellsInstrs}
 use Rattle.live_lanes.specs.Touching.{AreTouched, FindsInstrs}
 use Rattle.live_lanes.specs.declared.table.Table.{Table}
 use Rattle.live_laws.proofs.Touch.Touched.{touched-law}

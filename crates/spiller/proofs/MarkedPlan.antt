@@ -1,6 +1,6 @@
 -- The plan along the instructions that touch the range is that for all places.
-use Rattle.std.proofs.Common.{◌≡◌, ◌∷◌, ◌++◌, ◌∙◌, ◌&&◌, ◌||◌, ◌⊎◌, inl, inr, ℕ, suc, Bool, true, false, cond, List, [], Option, Some, None, refl, sym, ap, subst, eq-eqb, eqb-true, append_assoc}
-use Rattle.std.specs.Prelude.{flat_map, nat_eq, slice_get, take}
+use Rattle.std.proofs.Common.{◌≡◌, ◌∷◌, ◌++◌, ◌∙◌, ◌&&◌, ◌||◌, ◌⊎◌, inl, inr, ℕ, suc, Bool, true, false, cond, List, [], Option, Some, refl, sym, ap, subst, eq-eqb, eqb-true}
+use Rattle.std.specs.Prelude.{nat_eq, slice_get, take}
 use Rattle.std.specs.List.{list_all, list_any}
 use Rattle.target_base.specs.declared.types.Target.{Target}
 use Rattle.meaning.specs.Live.{Among, here, there}
@@ -12,11 +12,11 @@ use Rattle.mir_meaning.specs.Registers.{has_number}
 use Rattle.mir_meaning.specs.Rules.{block_numbers}
 use Rattle.live_edits.proofs.RunPlaces.{member-place}
 use Rattle.lowering_laws.proofs.BlockRules.{ordered}
-use Rattle.spiller.specs.Marks.{Mark, all_marks, ended_behind, ends_of, has_ended, marks_from, with_mark, with_marks}
+use Rattle.spiller.specs.Marks.{Mark, all_marks, ends_of, has_ended, marks_from, with_marks}
 use Rattle.spiller.specs.Rematerialised.{places_from, places_of}
 use Rattle.spiller.specs.Setting.{Spilling}
 use Rattle.spiller.specs.Views.{Planned}
-use Rattle.spiller.specs.WholePlan.{instrs_of, touches_place, with_blocks, with_place, with_places}
+use Rattle.spiller.specs.WholePlan.{instrs_of, with_blocks, with_place, with_places}
 use Rattle.spiller.proofs.BlockEdits.{places-whole}
 
 or-none : (u : Bool) → u || false ≡ u

@@ -1,12 +1,10 @@
 -- What is planned for copies, stores, reloads and definitions without a value is what their changes plan.
-use Rattle.std.proofs.Common.{◌≡◌, ◌∙◌, ℕ, Bool, true, false, cond, not, ◌&&◌, ◌||◌, List, [], ◌∷◌, Option, Some, None, refl, sym, ap, subst}
-use Rattle.std.specs.Prelude.{OnOk, Ok, Err, option_and_then}
+use Rattle.std.proofs.Common.{◌≡◌, ◌∙◌, ℕ, Bool, true, false, cond, not, ◌||◌, List, [], ◌∷◌, Option, refl, sym, ap, subst}
+use Rattle.std.specs.Prelude.{OnOk, Ok, Err}
 use Rattle.std.specs.declared.result.Result.{Result}
 use Rattle.std.specs.List.{list_any}
 use Rattle.target_base.specs.declared.types.ClassId.{ClassId}
 use Rattle.target_base.specs.declared.types.IndexId.{IndexId}
-use Rattle.target_base.specs.declared.types.OpId.{OpId}
-use Rattle.target_base.specs.Registers.{spill_place}
 use Rattle.target_base.specs.Storage.{same_numbers}
 use Rattle.mir_func.specs.declared.func.Gap.{Gap}
 use Rattle.mir_func.specs.declared.func.RegOp.{RegOp}
@@ -16,12 +14,12 @@ use Rattle.mir_func.specs.declared.func.Instr.{Instr}
 use Rattle.mir_func.specs.Binding.{registers}
 use Rattle.live_edits.specs.declared.edit.Edit.TheVariants as edits
 use Rattle.spiller.specs.Setting.{Spilling, in_own_slot, is_live_behind, is_own, lanes_named, moving_class, own_class, own_lanes, part_class, store, undef_use}
-use Rattle.spiller.specs.Spilled.{Change, becomes, copied_in, copied_out, copied_within, copy_change, in_place_of, is_own_part, is_slot, through_tiny, undefined_change}
+use Rattle.spiller.specs.Spilled.{Change, becomes, copied_in, copied_out, copied_within, copy_change, in_place_of, is_own_part, through_tiny, undefined_change}
 use Rattle.spiller.specs.Views.{Planned}
-use Rattle.spiller.specs.Planned.{known_op, names_own, names_own_slot, with_change}
-use Rattle.spiller.specs.Additions.{edited, slot_named, with_addition}
+use Rattle.spiller.specs.Planned.{names_own, with_change}
+use Rattle.spiller.specs.Additions.{edited, with_addition}
 use Rattle.spiller.specs.Moving.{moved_through, reload_change, spill_change}
-use Rattle.spiller.proofs.Changes.{erased, moved, moved-from-own, moved-to-own, own-named, replaced-by}
+use Rattle.spiller.proofs.Changes.{erased, moved, moved-from-own, moved-to-own}
 use Rattle.spiller.proofs.Singles.{access-registers}
 
 module _ (s : Spilling) (before behind : Gap) (i : Instr) (p r : Planned) where

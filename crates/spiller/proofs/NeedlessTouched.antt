@@ -1,5 +1,5 @@
 -- An instruction that is needed no more writes the range, and so touches it.
-use Rattle.std.proofs.Common.{◌≡◌, ◌∷◌, ◌++◌, ◌∙◌, ◌+◌, ◌<◌, ◌≤◌, ◌⊎◌, inr, ◌&&◌, not, ℕ, zero, suc, Bool, true, false, cond, List, [], Option, Some, None, filter, drop, length, map, refl, sym, ap, subst, arith, eq-eqb}
+use Rattle.std.proofs.Common.{◌≡◌, ◌∷◌, ◌++◌, ◌∙◌, ◌+◌, ◌<◌, ◌≤◌, inr, ◌&&◌, not, ℕ, zero, suc, Bool, true, false, cond, List, [], Option, Some, None, filter, drop, length, map, refl, ap, subst, arith, eq-eqb}
 use Rattle.std.specs.Prelude.{nat_eq, nat_lt, slice_get, is_some}
 use Rattle.std.specs.List.{list_all, list_any}
 use Rattle.std.proofs.lemmas.Bool.{lt-ltb, ltb-true}
@@ -13,7 +13,7 @@ use Rattle.meaning.specs.Live.{Among, here, there, Writing, is_slot}
 use Rattle.mir_func.specs.declared.func.Block.{Block}
 use Rattle.mir_func.specs.declared.func.Instr.{Instr}
 use Rattle.mir_func.specs.Edits.{instr_place}
-use Rattle.mir_func.specs.Value.{Function, IsFunction, id_count, id_total}
+use Rattle.mir_func.specs.Value.{Function, id_count, id_total}
 use Rattle.mir_func.specs.Binding.{does, effect_of, is_lowered_away, passes}
 use Rattle.mir_func.proofs.ByPlace.{place_is}
 use Rattle.mir_meaning.specs.Points.{AtFirst, block_rest, from_instr, has_instr, point_item, points_of, touches}
@@ -26,7 +26,6 @@ use Rattle.instr_effects.specs.Steps.{Numbering}
 use Rattle.instr_effects.proofs.Members.{filter-of, map-in}
 use Rattle.live_lanes.specs.declared.table.Table.{Table}
 use Rattle.live_laws.specs.Effects.Coded.{IsNumbered, KeepsRules}
-use Rattle.live_laws.specs.Touch.{is_known}
 use Rattle.live_laws.proofs.Effects.Instrs.{same-law, written-law}
 use Rattle.live_laws.proofs.Effects.Tabled.{table-law}
 use Rattle.live_laws.proofs.Exact.Spots.{drop-at}

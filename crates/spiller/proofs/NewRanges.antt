@@ -1,6 +1,6 @@
 -- New ranges, one more at a time.
-use Rattle.std.proofs.Common.{◌≡◌, ◌∷◌, ◌++◌, ◌∙◌, ◌+◌, ◌<◌, ◌≤◌, inl, inr, ℕ, zero, suc, true, cond, List, [], Option, Some, None, get_or, length, take, refl, sym, ap, subst, arith, add-one, append_assoc, append-nil, length-append, eq-eqb}
-use Rattle.std.specs.Prelude.{nat_eq, unwrap_or}
+use Rattle.std.proofs.Common.{◌≡◌, ◌∷◌, ◌++◌, ◌∙◌, ◌+◌, ◌<◌, ◌≤◌, inl, inr, ℕ, zero, suc, cond, List, [], Option, Some, get_or, length, take, refl, sym, ap, subst, arith, add-one, append_assoc, append-nil, length-append, eq-eqb}
+use Rattle.std.specs.Prelude.{unwrap_or}
 use Rattle.target_base.specs.declared.types.ClassId.{ClassId}
 use Rattle.target_base.specs.declared.types.Target.{Target}
 use Rattle.target_base.specs.Registers.{IsClass}
@@ -11,7 +11,7 @@ use Rattle.live_lanes.specs.declared.live.LiveFunc.{LiveFunc}
 use Rattle.live_lanes.specs.Doing.{IsComputed}
 use Rattle.live_laws.specs.Effects.Coded.{KeepsRules}
 use Rattle.edit_laws.specs.Further.{KeepsLast, with_classes}
-use Rattle.spiller.specs.Growing.{AreGiven, HasGrown, HasGrownSome, MayGrow}
+use Rattle.spiller.specs.Growing.{HasGrown, HasGrownSome, MayGrow}
 use Rattle.spiller.specs.Slots.{Slots, with_original, with_ranges}
 use Rattle.spiller.proofs.FurtherShapes.{rules-kept}
 

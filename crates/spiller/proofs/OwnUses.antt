@@ -1,5 +1,5 @@
 -- What operands read of the range, one by one, is what the definition reads of it.
-use Rattle.std.proofs.Common.{◌≡◌, ◌∙◌, ℕ, zero, suc, Bool, true, false, cond, not, ◌&&◌, ◌||◌, List, [], ◌∷◌, ◌++◌, Option, Some, None, map, refl, sym, ap, subst, eqb-true}
+use Rattle.std.proofs.Common.{◌≡◌, ◌∙◌, ℕ, suc, Bool, true, false, cond, not, ◌&&◌, ◌||◌, List, [], ◌∷◌, ◌++◌, Option, Some, None, map, refl, sym, ap, subst, eqb-true}
 use Rattle.std.specs.Prelude.{filter, filter_map, find, flat_map, nat_eq}
 use Rattle.std.specs.List.{AllByRecursion, cons_option, list_all, list_any}
 use Rattle.std.proofs.lemmas.List.Elements.{filter_map-append}
@@ -15,9 +15,9 @@ use Rattle.mir_func.specs.declared.func.Operand.{Operand}
 use Rattle.mir_func.specs.declared.func.Operand.TheVariants as operands
 use Rattle.mir_func.specs.declared.func.Instr.{Instr}
 use Rattle.mir_func.specs.Value.{Function}
-use Rattle.mir_func.specs.Binding.{Bound, after_first, bound, explicit_bound, explicit_operands, explicit_roles, first_role, implicit_bound, implicit_registers, implicit_roles, is_early, is_implicit_operand, is_virtual, numbered, operand_class, passes, registers, roles_of, same_index, takes_role}
+use Rattle.mir_func.specs.Binding.{Bound, after_first, bound, explicit_bound, explicit_operands, explicit_roles, first_role, implicit_bound, implicit_registers, implicit_roles, is_early, is_implicit_operand, is_virtual, numbered, operand_class, passes, roles_of, same_index, takes_role}
 use Rattle.mir_func.proofs.Bound.{bound_step, bound_none}
-use Rattle.mir_meaning.specs.Places.{Defining, Using, Variable, each_once, has_tied_use, is_defining, operand_variable, operand_variables, register_variable, same_class, same_use, variable}
+use Rattle.mir_meaning.specs.Places.{Defining, Using, Variable, each_once, has_tied_use, is_defining, operand_variable, register_variable, same_class, same_use, variable}
 use Rattle.mir_meaning.specs.Points.{is_range}
 use Rattle.mir_meaning.specs.Rules.{implicit_last}
 use Rattle.spiller.specs.Setting.{Spilling}

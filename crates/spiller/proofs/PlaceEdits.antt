@@ -1,14 +1,11 @@
 -- The edits of a place make its change.
-use Rattle.std.proofs.Common.{◌≡◌, ◌∷◌, ◌++◌, ◌∙◌, ◌+◌, ℕ, zero, suc, Bool, true, false, cond, List, [], refl, sym, ap, subst, length, map, arith, add-one, append_assoc, append-nil}
-use Rattle.std.specs.List.{zip}
-use Rattle.target_base.specs.declared.types.OpId.{OpId}
+use Rattle.std.proofs.Common.{◌≡◌, ◌∷◌, ◌++◌, ◌∙◌, ◌+◌, ℕ, suc, Bool, true, false, cond, List, [], refl, sym, ap, subst, length, arith, add-one, append_assoc, append-nil}
 use Rattle.target_base.specs.declared.types.Target.{Target}
 use Rattle.meaning.specs.Live.{Among, here, there}
 use Rattle.mir_func.specs.declared.func.Block.{Block}
 use Rattle.mir_func.specs.declared.func.Instr.{Instr}
 use Rattle.mir_func.specs.Value.{Function}
 use Rattle.mir_func.specs.Edits.{made}
-use Rattle.mir_meaning.specs.Registers.{numbers}
 use Rattle.edit_laws.specs.Edits.{Edit, Put, Replace, Erase, IsPlain, StaysPlain, with_op}
 use Rattle.live_edits.specs.declared.edit.Edit.{Edit as CodeEdit}
 use Rattle.live_edits.specs.declared.edit.Edit.TheVariants as code_edits

@@ -1,5 +1,5 @@
 -- What becomes of a place, case by case: of a copy, a store, a reload, an IMPLICIT_DEF and a constant, and of any other place.
-use Rattle.std.proofs.Common.{◌≡◌, ◌∙◌, ◌++◌, ◌&&◌, ◌||◌, not, ℕ, suc, Bool, true, false, cond, List, [], ◌∷◌, Option, Some, None, flat_map, take, refl, sym, ap, subst}
+use Rattle.std.proofs.Common.{◌≡◌, ◌∙◌, ◌&&◌, ◌||◌, not, ℕ, suc, Bool, true, false, cond, List, [], ◌∷◌, Option, Some, None, take, refl, sym, ap, subst}
 use Rattle.std.specs.Prelude.{filter, length, nat_lt, slice_get}
 use Rattle.std.specs.List.{list_all, list_any}
 use Rattle.target_base.specs.declared.types.ClassId.{ClassId}

@@ -1,5 +1,5 @@
 -- What is planned for a place with tinies, in its steps, is what its change plans.
-use Rattle.std.proofs.Common.{◌≡◌, ◌∙◌, ℕ, ◌+◌, zero, suc, List, [], ◌∷◌, ◌++◌, Option, flat_map, length, map, refl, sym, ap, subst, arith}
+use Rattle.std.proofs.Common.{◌≡◌, ◌∙◌, ℕ, ◌+◌, suc, List, [], ◌∷◌, ◌++◌, Option, flat_map, length, map, refl, sym, ap, subst}
 use Rattle.std.specs.List.{AllByRecursion}
 use Rattle.std.proofs.lemmas.List.{append-nil, map-append, length-map}
 use Rattle.target_base.specs.declared.types.ClassId.{ClassId}
@@ -7,7 +7,6 @@ use Rattle.mir_func.specs.declared.func.Gap.{Gap}
 use Rattle.mir_func.specs.declared.func.Instr.{Instr}
 use Rattle.mir_func.specs.Binding.{numbered}
 use Rattle.mir_meaning.specs.Places.{Variable, each_once}
-use Rattle.live_edits.specs.declared.edit.Edit.{Edit}
 use Rattle.spiller.specs.declared.plan.SpillView.{SpillView}
 use Rattle.spiller.specs.declared.remat.UseKey.{UseKey}
 use Rattle.spiller.specs.declared.roles.IndexedClass.{IndexedClass}
@@ -16,10 +15,10 @@ use Rattle.spiller.specs.declared.seats.DefinedTiny.{DefinedTiny}
 use Rattle.spiller.specs.Reaching.{Facts}
 use Rattle.spiller.specs.Setting.{Spilling}
 use Rattle.spiller.specs.Rematerialised.{repeated_for, way_reading, ways_read}
-use Rattle.spiller.specs.Spilled.{OwnDefinition, Seats, definitions_in, given, place_change, place_name, seats_from, stored, tied_reload, with_tinies}
+use Rattle.spiller.specs.Spilled.{OwnDefinition, Seats, given, place_change, place_name, seats_from, stored, tied_reload, with_tinies}
 use Rattle.spiller.specs.Views.{Planned, gap_before, own_setting, spilling_of, way_of, ways_of}
 use Rattle.spiller.specs.Planned.{own_edits, with_change}
-use Rattle.spiller.specs.Additions.{Addition, both, definitions_given, edited, own_definitions, own_uses, put_into, ranges_made, tied_reloads, ways_given, with_addition}
+use Rattle.spiller.specs.Additions.{both, definitions_given, edited, own_definitions, own_uses, put_into, ranges_made, tied_reloads, ways_given, with_addition}
 use Rattle.spiller.specs.Seating.{IsGiven, defined_tiny, placed_edits, read_tiny, stored_tiny}
 use Rattle.spiller.specs.Placing.{IsPlainForm, KnownPlace, LiveAlike}
 use Rattle.spiller.proofs.Added.{then-added}

@@ -1,8 +1,7 @@
 -- The tinies of a place by the records that are kept of them, and by the definition.
-use Rattle.std.proofs.Common.{◌≡◌, ◌∙◌, ℕ, zero, suc, Bool, true, false, cond, not, ◌&&◌, ◌||◌, List, [], ◌∷◌, ◌++◌, Option, Some, None, flat_map, map, refl, sym, ap}
+use Rattle.std.proofs.Common.{◌≡◌, ◌∙◌, ℕ, suc, Bool, true, false, cond, not, ◌&&◌, ◌||◌, List, [], ◌∷◌, ◌++◌, Option, Some, None, flat_map, map, refl, sym, ap}
 use Rattle.std.specs.Prelude.{filter_map, find, nat_eq, option_and_then, option_map}
 use Rattle.std.specs.List.{AllByRecursion, cons_option, list_any}
-use Rattle.std.proofs.lemmas.List.{map-append}
 use Rattle.target_base.specs.declared.types.IndexId.{IndexId}
 use Rattle.target_base.specs.declared.types.Role.{Role}
 use Rattle.mir_func.specs.declared.func.Loc.TheVariants.{Virtual}
@@ -10,9 +9,9 @@ use Rattle.mir_func.specs.declared.func.RegOp.{RegOp}
 use Rattle.mir_func.specs.declared.func.Operand.{Operand}
 use Rattle.mir_func.specs.declared.func.Operand.TheVariants as operands
 use Rattle.mir_func.specs.declared.func.Instr.{Instr}
-use Rattle.mir_func.specs.Binding.{Bound, explicit_bound, explicit_roles, numbered, operand_class, registers, roles_of, tied_number}
-use Rattle.mir_func.proofs.Bound.{bound_operands, numbered_things}
-use Rattle.mir_meaning.specs.Places.{Using, Variable, same_use, variable}
+use Rattle.mir_func.specs.Binding.{Bound, explicit_bound, explicit_roles, numbered, operand_class, roles_of, tied_number}
+use Rattle.mir_func.proofs.Bound.{bound_operands}
+use Rattle.mir_meaning.specs.Places.{Variable}
 use Rattle.live_edits.specs.declared.edit.Edit.{Edit}
 use Rattle.live_edits.specs.declared.edit.Edit.TheVariants as edits
 use Rattle.spiller.specs.declared.roles.IndexedClass.{IndexedClass}

@@ -1,6 +1,6 @@
 -- What is known of the place of one instruction, and what becomes of it by its effect.
 use Rattle.std.proofs.Common.{◌≡◌, ◌∙◌, ℕ, ◌+◌, zero, suc, Bool, true, false, cond, not, ◌&&◌, ◌||◌, List, [], ◌∷◌, Option, Some, None, refl, sym, ap, subst, eqb-true}
-use Rattle.std.specs.Prelude.{pos, negsuc, option_map, slice_get, take, ℤ}
+use Rattle.std.specs.Prelude.{pos, negsuc, slice_get, take, ℤ}
 use Rattle.std.specs.List.{AllByRecursion, list_any}
 use Rattle.target_base.specs.declared.types.Effect.{Effect}
 use Rattle.target_base.specs.declared.types.Effect.TheVariants as effects
@@ -10,7 +10,6 @@ use Rattle.target_base.specs.declared.types.Role.TheVariants as roles
 use Rattle.target_base.specs.declared.types.Target.{Target}
 use Rattle.target_base.specs.Rules.{is_copy, is_implicit_def, is_reload, is_spill}
 use Rattle.target_base.specs.Roles.{is_definition as is_definition_role, is_use as is_use_role, is_lanes, is_slot as is_slot_role}
-use Rattle.target_base.proofs.Tests.{first_of_both, second_of_both}
 use Rattle.meaning.specs.Live.{Among as Member, here as first, there as later}
 use Rattle.mir_func.specs.declared.func.RegOp.{RegOp}
 use Rattle.mir_func.specs.declared.func.Operand.{Operand}
@@ -26,22 +25,21 @@ use Rattle.live_lanes.specs.Looks.{InOrder}
 use Rattle.live_lanes.specs.Touching.{FindsInstrs}
 use Rattle.live_laws.specs.Effects.Shaped.{IsShaped}
 use Rattle.live_laws.proofs.Effects.Blocks.{slice-member}
-use Rattle.live_laws.proofs.Effects.Moving.{some-same}
 use Rattle.live_laws.proofs.Exact.Everywhere.{spot-at}
 use Rattle.live_laws.proofs.Exact.Inside.{inside-law}
-use Rattle.live_laws.proofs.Touch.Roles.{TakeAll, Takes, fit, has_roles, met, reload-takes, spill-takes}
+use Rattle.live_laws.proofs.Touch.Roles.{TakeAll, fit, has_roles, reload-takes, spill-takes}
 use Rattle.live_laws.proofs.Touch.Touched.{touched-law}
 use Rattle.spiller.specs.declared.plan.SpillView.{SpillView}
 use Rattle.spiller.specs.declared.remat.UseKey.{UseKey}
 use Rattle.spiller.specs.Reaching.{Facts}
 use Rattle.spiller.specs.Setting.{Spilling, is_own, lanes_named}
 use Rattle.spiller.specs.Rematerialised.{copy_reading, is_needless, places_from, places_of, repeated_for, way_reading, ways_read}
-use Rattle.spiller.specs.Spilled.{Change, becomes, change, copy_change, effect_change, place_change, place_name, undefined_change}
-use Rattle.spiller.specs.Views.{IsThere, gap_behind, own_setting, spilling_of}
-use Rattle.spiller.specs.Planned.{is_move_place, names_own, way_key}
+use Rattle.spiller.specs.Spilled.{becomes, change, copy_change, effect_change, place_change, place_name, undefined_change}
+use Rattle.spiller.specs.Views.{gap_behind, own_setting, spilling_of}
+use Rattle.spiller.specs.Planned.{is_move_place, names_own}
 use Rattle.spiller.specs.Seating.{IsBehind, IsGiven}
 use Rattle.spiller.specs.Moving.{IsCopied, is_placed, reload_change, spill_change}
-use Rattle.spiller.specs.Placing.{IsPlainForm, KnownPlace, LiveAlike, Spillable, last_name}
+use Rattle.spiller.specs.Placing.{IsPlainForm, KnownPlace, LiveAlike, Spillable}
 use Rattle.spiller.proofs.Known.{plain-form, repeated-there, tells-live}
 
 -- what an instruction of an effect becomes

@@ -1,14 +1,13 @@
 -- Where the function names the slot behind the spill, a touched place uses it, or the function named it before.
-use Rattle.std.proofs.Common.{◌≡◌, ◌∷◌, ◌++◌, ◌∙◌, ◌+◌, ◌&&◌, ◌||◌, ◌⊎◌, inl, inr, not, ℕ, Bool, true, false, List, [], flat_map, length, map, refl, sym, ap, subst}
+use Rattle.std.proofs.Common.{◌≡◌, ◌∷◌, ◌++◌, ◌∙◌, ◌+◌, ◌&&◌, ◌||◌, ◌⊎◌, inl, inr, not, ℕ, Bool, true, false, List, [], flat_map, length, map, refl, sym, ap}
 use Rattle.std.specs.List.{list_any, sum_by, zip}
 use Rattle.std.proofs.lemmas.List.Folds.{list_any-append}
 use Rattle.meaning.specs.Live.{Among, here, there}
 use Rattle.mir_func.specs.declared.func.Block.{Block}
 use Rattle.mir_func.specs.declared.func.Instr.{Instr}
-use Rattle.mir_meaning.specs.Registers.{numbers}
 use Rattle.spiller.specs.Setting.{Spilling}
 use Rattle.spiller.specs.Rematerialised.{places_of}
-use Rattle.spiller.specs.Spilled.{Change, all_changes, becomes, block_changes, change, changes, is_slot, names_slot, new_ids, numbered_change, spilled, spilled_block, tinies_of, with_ids}
+use Rattle.spiller.specs.Spilled.{Change, block_changes, change, changes, is_slot, names_slot, new_ids, numbered_change, spilled, spilled_block, tinies_of, with_ids}
 use Rattle.spiller.specs.Planned.{names_own_slot, uses_own_slot}
 use Rattle.spiller.specs.WholePlan.{instrs_of, touches_place}
 use Rattle.spiller.proofs.BlockEdits.{places-whole, whole}

@@ -1,23 +1,17 @@
 -- The edits of the plan for a whole function spill the range.
-use Rattle.std.proofs.Common.{◌≡◌, ◌∷◌, ◌++◌, ◌∙◌, ◌&&◌, ◌||◌, ◌⊎◌, inl, inr, ℕ, Bool, true, false, cond, List, [], refl, sym, ap, subst}
+use Rattle.std.proofs.Common.{◌≡◌, ◌∙◌, ◌⊎◌, inl, inr, Bool, true, false, List, [], refl, sym, ap, subst}
 use Rattle.std.specs.Prelude.{length}
-use Rattle.std.specs.List.{list_any}
-use Rattle.target_base.specs.declared.types.Target.{Target}
 use Rattle.meaning.specs.Live.{Among}
 use Rattle.mir_func.specs.declared.func.Block.{Block}
 use Rattle.mir_func.specs.declared.func.Instr.{Instr}
 use Rattle.mir_func.specs.Value.{Function}
 use Rattle.mir_meaning.specs.Points.{touches}
-use Rattle.edit_laws.specs.Edits.{all_edited}
 use Rattle.edit_laws.specs.Further.{with_classes}
 use Rattle.live_edits.specs.Runs.{edits_of}
 use Rattle.live_laws.proofs.Effects.Lists.{any-in}
-use Rattle.live_lanes.specs.declared.table.Table.{Table}
 use Rattle.lowering_laws.specs.Named.{TouchesItsRanges}
 use Rattle.lowering_laws.specs.Shapes.{IsLowered}
 use Rattle.spiller.specs.EditLaw.{DoSpill, PlansSpill, SpillEditsLaw, tiny_classes}
-use Rattle.spiller.specs.MaySpill.{MaySpill}
-use Rattle.spiller.specs.Reaching.{AreFacts}
 use Rattle.spiller.specs.Setting.{Spilling}
 use Rattle.spiller.specs.Rematerialised.{is_needless, places_of}
 use Rattle.spiller.specs.Spilled.{names_slot, spilled}
@@ -30,7 +24,7 @@ use Rattle.spiller.proofs.EditMoves.{After, after-all, after-places, after-spare
 use Rattle.spiller.proofs.Unnamed.{strange-of, unnamed-change}
 use Rattle.spiller.proofs.NeedlessTouched.{needless-touch}
 use Rattle.spiller.proofs.SlotsUsed.{slot-known, slot-used}
-use Rattle.spiller.proofs.WholePlans.{StayUntouched, StaysSo, blocks_use, classes-are, edits-are, tinies-are, whole-plan}
+use Rattle.spiller.proofs.WholePlans.{StayUntouched, blocks_use, classes-are, edits-are, tinies-are, whole-plan}
 
 -- instructions that are needed no more touch the range
 abbrev pub NeedlessTouch : Spilling → Type 0

@@ -1,10 +1,9 @@
 -- What is known of the place of the terminators of a block.
-use Rattle.std.proofs.Common.{◌≡◌, ◌∙◌, ℕ, ◌+◌, zero, suc, Bool, true, false, cond, not, ◌&&◌, ◌||◌, List, [], ◌∷◌, ◌++◌, Option, Some, None, length, refl, sym, ap, subst, append_assoc, arith}
+use Rattle.std.proofs.Common.{◌≡◌, ◌∙◌, ℕ, ◌+◌, suc, Bool, true, false, cond, ◌&&◌, ◌||◌, List, [], ◌∷◌, ◌++◌, Option, Some, None, length, refl, sym, ap, subst, append_assoc, arith}
 use Rattle.std.specs.Prelude.{filter, nat_lt, slice_get}
 use Rattle.std.specs.List.{AllByRecursion, list_all, list_any}
 use Rattle.target_base.specs.declared.types.Effect.{Effect}
 use Rattle.target_base.specs.declared.types.Effect.TheVariants as effects
-use Rattle.target_base.specs.declared.types.OpaqueKind.TheVariants as kinds
 use Rattle.target_base.specs.declared.types.Target.{Target}
 use Rattle.target_base.proofs.Tests.{first_of_both, second_of_both}
 use Rattle.meaning.specs.Live.{Among as Member, here as first, there as later}
@@ -17,7 +16,7 @@ use Rattle.spiller.specs.declared.plan.SpillView.{SpillView}
 use Rattle.spiller.specs.declared.remat.UseKey.{UseKey}
 use Rattle.spiller.specs.Reaching.{Facts}
 use Rattle.spiller.specs.Setting.{Spilling}
-use Rattle.spiller.specs.Rematerialised.{all_readings, is_constant, is_needless, is_rematerialised, places_from, reaches, ways_read}
+use Rattle.spiller.specs.Rematerialised.{all_readings, is_constant, is_rematerialised, places_from, reaches, ways_read}
 use Rattle.spiller.specs.Spilled.{becomes, change, place_change}
 use Rattle.spiller.specs.Views.{gap_behind, own_setting, spilling_of}
 use Rattle.spiller.specs.Planned.{is_move_place}

@@ -1,6 +1,6 @@
 -- The uses that are tied to a definition, one by one, and what the definition of a change says of them.
 use Rattle.std.proofs.Common.{◌≡◌, ◌∙◌, ℕ, Bool, true, false, cond, not, ◌&&◌, List, [], ◌∷◌, ◌++◌, Option, Some, None, map, refl, sym, ap, eqb-true}
-use Rattle.std.specs.Prelude.{filter, filter_map, nat_eq, option_and_then, option_map}
+use Rattle.std.specs.Prelude.{filter, filter_map, nat_eq, option_map}
 use Rattle.std.specs.List.{cons_option}
 use Rattle.target_base.specs.declared.types.Role.{Role}
 use Rattle.mir_func.specs.declared.func.Loc.{Loc}

@@ -1,7 +1,7 @@
 -- A place that names the range nowhere gets no tinies, and stays as it is.
-use Rattle.std.proofs.Common.{◌≡◌, ◌∷◌, ◌++◌, ◌∙◌, ◌+◌, ◌&&◌, ◌||◌, not, ℕ, suc, Bool, true, false, cond, List, Option, Some, None, filter, flat_map, length, map, refl, sym, ap, subst, eq-eqb, eqb-true, []}
+use Rattle.std.proofs.Common.{◌≡◌, ◌∷◌, ◌++◌, ◌∙◌, ◌+◌, ◌&&◌, ◌||◌, not, ℕ, suc, Bool, true, false, cond, List, Option, Some, None, filter, flat_map, length, map, refl, sym, ap, subst, []}
 use Rattle.std.specs.Prelude.{filter_map, nat_eq}
-use Rattle.std.specs.List.{cons_option, list_any}
+use Rattle.std.specs.List.{cons_option}
 use Rattle.target_base.specs.declared.types.Effect.{Effect}
 use Rattle.target_base.specs.declared.types.Effect.TheVariants as effects
 use Rattle.target_base.specs.declared.types.Role.{Role}
@@ -25,7 +25,7 @@ use Rattle.lowering_laws.proofs.RulesStay.{numbered-of, same-register}
 use Rattle.lowering_laws.proofs.Seated.{bound-operand, register-in, told-of}
 use Rattle.spiller.specs.Rematerialised.{is_needless, own_variables, ways_read}
 use Rattle.spiller.specs.Setting.{Spilling, in_own_slot, is_live_behind, is_own, moving_class, own_class, part_class, store, undef_use}
-use Rattle.spiller.specs.Spilled.{Change, OwnDefinition, Seats, as_tiny, becomes, change, copied_in, copied_out, copied_within, definitions_in, effect_change, given, in_place_of, is_own_part, numbered_operands, own_definition, place_change, place_name, seated, seated_operand, stored, through_tiny, tied_reload, tiny_of, with_tinies}
+use Rattle.spiller.specs.Spilled.{Change, OwnDefinition, Seats, as_tiny, becomes, change, copied_in, copied_out, copied_within, definitions_in, effect_change, given, in_place_of, is_own_part, numbered_operands, own_definition, place_change, place_name, seated_operand, stored, through_tiny, tied_reload, tiny_of, with_tinies}
 use Rattle.spiller.specs.Planned.{names_own}
 
 filter-none : {X : Type 0} (p : X → Bool) (xs : List X) → ((x : X) → Member x xs → p x ≡ false) → filter p xs ≡ []

@@ -1,16 +1,15 @@
 -- Walks over operands with their roles, and over lists, one step after the other.
-use Rattle.std.proofs.Common.{◌≡◌, ◌∙◌, ℕ, ◌+◌, ◌<◌, ◌≤◌, suc, Bool, true, false, cond, ◌||◌, List, [], ◌∷◌, ◌++◌, Option, Some, None, get_or, drop, flat_map, length, map, refl, sym, ap, append_assoc, add-one, arith}
+use Rattle.std.proofs.Common.{◌≡◌, ◌∙◌, ℕ, ◌+◌, ◌<◌, ◌≤◌, Bool, true, false, cond, ◌||◌, List, [], ◌∷◌, ◌++◌, Option, get_or, drop, length, refl, sym, ap, append_assoc, add-one}
 use Rattle.std.specs.Prelude.{filter_map}
 use Rattle.std.specs.List.{cons_option, list_any}
 use Rattle.std.proofs.lemmas.List.{append-nil, drop_more}
-use Rattle.std.proofs.lemmas.List.Folds.{list_any-append}
 use Rattle.target_base.specs.declared.types.Role.{Role}
 use Rattle.mir_func.specs.declared.func.Operand.{Operand}
 use Rattle.mir_func.specs.Binding.{Bound, after_first, explicit_bound, first_role, numbered}
 use Rattle.mir_func.proofs.Bound.{bound_step, bound_none}
 use Rattle.phi_elim.proofs.Walks.{drop_all}
 use Rattle.mir_meaning.specs.Places.{Variable, each_once, same_use}
-use Rattle.spiller.proofs.Added.{or-false, or-more, or-true}
+use Rattle.spiller.proofs.Added.{or-true}
 use Rattle.spiller.proofs.OwnUses.{seen-alike}
 
 -- one operand more

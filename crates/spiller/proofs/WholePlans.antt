@@ -1,8 +1,8 @@
 -- The plan for a whole function has the edits of all places, and the tinies of the definition.
-use Rattle.std.proofs.Common.{◌≡◌, ◌∷◌, ◌++◌, ◌∙◌, ◌+◌, ◌&&◌, ◌||◌, ℕ, zero, suc, Bool, true, false, cond, List, [], Option, flat_map, length, map, refl, sym, ap, subst, arith, append_assoc, append-nil, length-append}
-use Rattle.std.specs.List.{list_any, sum_by, zip}
+use Rattle.std.proofs.Common.{◌≡◌, ◌∷◌, ◌++◌, ◌∙◌, ◌+◌, ◌&&◌, ◌||◌, ℕ, suc, Bool, true, false, cond, List, [], Option, flat_map, length, map, refl, sym, ap, arith, append_assoc, append-nil, length-append}
+use Rattle.std.specs.List.{sum_by, zip}
 use Rattle.std.proofs.lemmas.List.{map-append}
-use Rattle.std.proofs.lemmas.List.Sums.{sum_by-append, sum_by-cons}
+use Rattle.std.proofs.lemmas.List.Sums.{sum_by-cons}
 use Rattle.target_base.specs.declared.types.ClassId.{ClassId}
 use Rattle.meaning.specs.Live.{Among, here, there}
 use Rattle.mir_func.specs.declared.func.Block.{Block}
@@ -12,7 +12,7 @@ use Rattle.live_edits.specs.declared.edit.Edit.{Edit as CodeEdit}
 use Rattle.live_edits.specs.declared.edit.Edit.TheVariants as code_edits
 use Rattle.spiller.specs.Setting.{Spilling}
 use Rattle.spiller.specs.Rematerialised.{places_of}
-use Rattle.spiller.specs.Spilled.{Change, all_changes, becomes, block_changes, change, changes, new_ids, numbered_change, spilled, tinies, tinies_of, with_ids}
+use Rattle.spiller.specs.Spilled.{Change, becomes, block_changes, change, changes, new_ids, numbered_change, tinies, tinies_of, with_ids}
 use Rattle.spiller.specs.Views.{Planned, no_plan}
 use Rattle.spiller.specs.EditLaw.{tiny_classes}
 use Rattle.spiller.specs.Planned.{change_edits, known_op, names_own, own_edits, uses_own_slot}

@@ -2,13 +2,11 @@
 use Rattle.std.specs.Prelude.{ℕ, Bool, true, false, cond, not, ◌&&◌, ◌||◌, ◌+◌, List, [], ◌∷◌, ◌++◌, map, filter_map, flat_map, length, Option, Some, None}
 use Rattle.std.specs.List.{list_any, zip}
 use Rattle.target_base.specs.declared.types.ClassId.{ClassId}
-use Rattle.target_base.specs.declared.types.Role.{Role}
 use Rattle.target_base.specs.declared.types.Target.{Target}
 use Rattle.target_base.specs.Roles.{is_tied}
 use Rattle.mir_func.specs.declared.func.Gap.{Gap}
 use Rattle.mir_func.specs.declared.func.Loc.TheVariants.{Virtual}
 use Rattle.mir_func.specs.declared.func.RegOp.{RegOp}
-use Rattle.mir_func.specs.declared.func.Operand.{Operand}
 use Rattle.mir_func.specs.declared.func.Operand.TheVariants as operands
 use Rattle.mir_func.specs.declared.func.Instr.{Instr}
 use Rattle.mir_func.specs.Value.{Function}
@@ -17,7 +15,7 @@ use Rattle.mir_meaning.specs.Points.{is_range}
 use Rattle.mir_meaning.specs.Places.{Variable, Using, variable}
 use Rattle.mir_meaning.specs.Registers.{numbers}
 use Rattle.live_edits.specs.declared.edit.Edit.{Edit}
-use Rattle.spiller.specs.Setting.{Spilling, is_own, in_own_slot, plain_definition, reload}
+use Rattle.spiller.specs.Setting.{Spilling, in_own_slot, plain_definition, reload}
 use Rattle.spiller.specs.Rematerialised.{repeated}
 use Rattle.spiller.specs.Spilled.{Change, OwnDefinition, Seats, numbered_operands, own_definition, with_tinies}
 use Rattle.spiller.specs.Views.{Planned}

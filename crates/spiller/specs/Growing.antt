@@ -1,10 +1,9 @@
 -- New ranges of some classes, each its own original, and what spilling asks of a function with what is live in it and of the slots.
-use Rattle.std.specs.Prelude.{◌≡◌, ◌⊎◌, ◌+◌, ◌≤◌, ℕ, Bool, true, cond, length, take, map, List, Option, Some}
+use Rattle.std.specs.Prelude.{◌≡◌, ◌⊎◌, ◌+◌, ◌≤◌, ℕ, Bool, true, cond, length, take, List, Option, Some}
 use Rattle.target_base.specs.declared.types.ClassId.{ClassId}
 use Rattle.target_base.specs.declared.types.Target.{Target}
 use Rattle.target_base.specs.Registers.{IsClass}
 use Rattle.meaning.specs.Live.{Among}
-use Rattle.mir_func.specs.Value.{Function}
 use Rattle.live_lanes.specs.declared.live.LiveFunc.{LiveFunc}
 use Rattle.live_lanes.specs.Doing.{IsComputed}
 use Rattle.live_laws.specs.Effects.Coded.{KeepsRules}
@@ -13,7 +12,6 @@ use Rattle.live_edits.specs.LiveRuns.{IsExact}
 use Rattle.spiller.specs.EditLaw.{tiny_classes}
 use Rattle.spiller.specs.MaySpill.{MaySpill}
 use Rattle.spiller.specs.Reaching.{AreFacts, Facts}
-use Rattle.spiller.specs.Setting.{Spilling}
 use Rattle.spiller.specs.Slots.{HasFreeSlot, Slots, own_slot, with_ranges, with_slot}
 use Rattle.spiller.specs.Spilled.{names_slot, setting_of}
 

@@ -1,4 +1,4 @@
-use Rattle.std.proofs.Common.{◌≡◌, ◌+◌, ◌∙◌, ◌∷◌, [], Some, sym, ap, refl}
+use Rattle.std.proofs.Common.{◌+◌, ◌∙◌, ◌∷◌, [], Some, sym, ap, refl}
 use Rattle.std.specs.Prelude.{slice_get}
 use Rattle.target_base.specs.declared.types.Effect.TheVariants as effects
 use Rattle.mir_func.specs.Binding.{registers}

@@ -1,4 +1,4 @@
-use Rattle.std.proofs.Common.{◌≡◌, ◌+◌, ◌∙◌, ◌∷◌, [], sym, ap}
+use Rattle.std.proofs.Common.{◌+◌, ◌∙◌, ◌∷◌, [], sym}
 use Rattle.std.specs.Prelude.{slice_get}
 use Rattle.spiller.specs.Views.{gap_before, gap_behind, planned, spilling_of}
 use Rattle.spiller.specs.Spilled.{change, place_change}

@@ -1,4 +1,4 @@
-use Rattle.std.proofs.Common.{◌≡◌, ◌∙◌, Some, None, sym}
+use Rattle.std.proofs.Common.{◌∙◌, sym}
 use Rattle.spiller.specs.Readings.{goes_in, source_in}
 use Rattle.spiller.proofs.Singles.{has-effect}
 use Rattle.spiller.proofs.places.change_single.Goals as goal

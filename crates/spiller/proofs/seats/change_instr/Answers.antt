@@ -1,12 +1,12 @@
-use Rattle.std.proofs.Common.{◌≡◌, ◌++◌, ◌∙◌, sym, ap, subst, map}
+use Rattle.std.proofs.Common.{◌++◌, ◌∙◌, sym, ap, subst, map}
 use Rattle.std.specs.List.{AllByRecursion}
 use Rattle.std.proofs.lemmas.Result.{on_ok_weaker}
 use Rattle.mir_func.specs.Binding.{numbered}
-use Rattle.mir_meaning.specs.Places.{Variable, each_once}
+use Rattle.mir_meaning.specs.Places.{each_once}
 use Rattle.spiller.specs.Views.{gap_before, own_setting, planned, way_of}
 use Rattle.spiller.specs.Readings.{source_in}
-use Rattle.spiller.specs.Additions.{edited, own_definitions, own_uses, ways_given, with_addition}
-use Rattle.spiller.specs.Seating.{IsGiven, defined_tiny, placed_edits, read_tiny}
+use Rattle.spiller.specs.Additions.{own_definitions, own_uses, ways_given, with_addition}
+use Rattle.spiller.specs.Seating.{IsGiven, defined_tiny, read_tiny}
 use Rattle.spiller.proofs.PlacePlanned.{single-planned}
 use Rattle.spiller.proofs.seats.change_instr.Goals as goal
 

@@ -1,8 +1,8 @@
-use Rattle.std.proofs.Common.{◌≡◌, ◌++◌, ◌∙◌, None, sym, ap, subst, flat_map, map}
+use Rattle.std.proofs.Common.{◌++◌, ◌∙◌, None, sym, ap, subst, flat_map, map}
 use Rattle.std.specs.List.{AllByRecursion}
 use Rattle.std.proofs.lemmas.Result.{on_ok_weaker}
 use Rattle.mir_func.specs.Binding.{numbered}
-use Rattle.mir_meaning.specs.Places.{Variable, each_once}
+use Rattle.mir_meaning.specs.Places.{each_once}
 use Rattle.spiller.specs.Views.{gap_before, gap_behind, own_setting, planned, spilling_of, way_of}
 use Rattle.spiller.specs.Readings.{goes_in, source_in}
 use Rattle.spiller.proofs.Moves.{then-swapped}

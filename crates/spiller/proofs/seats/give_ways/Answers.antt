@@ -1,5 +1,4 @@
 use Rattle.std.proofs.Common.{◌≡◌, ◌∙◌, ◌+◌, ap, arith}
-use Rattle.mir_meaning.specs.Places.{Variable}
 use Rattle.spiller.specs.Views.{gap_before, own_setting, planned, way_of}
 use Rattle.spiller.specs.Readings.{source_in}
 use Rattle.spiller.specs.Seating.{IsGiven}

@@ -1,4 +1,4 @@
-use Rattle.std.proofs.Common.{◌≡◌, subst}
+use Rattle.std.proofs.Common.{subst}
 use Rattle.interference.specs.Listed.{KeepsLists}
 use Rattle.live_edits.proofs.DraftEdits.{any-err}
 use Rattle.spiller.specs.Growing.{HasGrown, HasGrownSome, MayGrow}

@@ -1,4 +1,4 @@
-use Rattle.std.proofs.Common.{◌≡◌, refl, subst, sym, take, arith, get_or, None}
+use Rattle.std.proofs.Common.{subst, arith, None}
 use Rattle.live_edits.proofs.DraftEdits.{any-err}
 use Rattle.spiller.specs.Growing.{HasGrown}
 use Rattle.spiller.specs.SlotMaps.{slots_of}

@@ -1,9 +1,8 @@
-use Rattle.std.proofs.Common.{◌≡◌, ◌∙◌, ◌∷◌, ◌+◌, ap, sym, refl, arith, get_or, drop, List, ℕ, []}
-use Rattle.spiller.specs.Marks.{Mark, MayPlan, all_marks, ended_behind, with_mark, with_marks}
-use Rattle.spiller.specs.Reaching.{Facts}
+use Rattle.std.proofs.Common.{◌≡◌, ◌∙◌, ◌+◌, ap, sym, arith, get_or, drop, List, ℕ, []}
+use Rattle.spiller.specs.Marks.{Mark, MayPlan, all_marks, with_marks}
 use Rattle.spiller.specs.Setting.{Spilling}
 use Rattle.spiller.specs.Views.{planned, spilling_of}
-use Rattle.spiller.proofs.MarkLoop.{IsNextMark, mark_ids, marks-ended, marks-are, next-mark, plan-begun, touched-marks}
+use Rattle.spiller.proofs.MarkLoop.{IsNextMark, marks-ended, marks-are, next-mark, plan-begun, touched-marks}
 use Rattle.spiller.proofs.spilled.plan_edits.Goals as goal
 
 pub touched-init : goal.touched-init

@@ -1,4 +1,4 @@
-use Rattle.std.proofs.Common.{◌≡◌, ◌+◌, ◌++◌, flat_map, length, map, take}
+use Rattle.std.proofs.Common.{◌≡◌, ◌++◌, flat_map, map, take}
 use Rattle.mir_func.specs.Binding.{numbered}
 use Rattle.spiller.specs.Views.{gap_before, own_setting, planned}
 use Rattle.spiller.specs.Additions.{definitions_given, own_definitions, with_addition}
