@@ -7,4 +7,6 @@ pub mod Rematerialised
 pub mod Spilled
 pub mod MaySpill
 pub mod Views
+pub mod Walks
+pub mod Readings
 pub mod Planned

@@ -1,5 +1,5 @@
 -- What is planned for a place, in the words of the definition: what becomes of it, as edits.
-use Rattle.std.specs.Prelude.{◌≡◌, ◌⊎◌, ℕ, Bool, true, cond, List, [], ◌∷◌, ◌++◌, ◌+◌, ◌||◌, map, length, Option, Some, None, option_map}
+use Rattle.std.specs.Prelude.{◌≡◌, ◌⊎◌, ℕ, Bool, true, false, cond, List, [], ◌∷◌, ◌++◌, ◌+◌, ◌||◌, map, length, Option, Some, None, option_map}
 use Rattle.std.specs.List.{list_any, zip}
 use Rattle.target_base.specs.declared.types.Effect.TheVariants as effects
 use Rattle.target_base.specs.declared.types.OpId.{OpId}

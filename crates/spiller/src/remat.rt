@@ -1,16 +1,25 @@
 //! Which readings of a range are rematerialised: the instruction that defines it is repeated in
 //! place of a reload.
 
-ghost use Rattle.std.specs.Prelude.{◌≡◌, cond};
-ghost use Rattle.target_base.specs.Roles.{is_tied};
+ghost use Rattle.std.specs.Prelude.{◌≡◌, ◌&&◌, ℕ, List, Some, find, map, filter, option_map, slice_get};
+ghost use Rattle.std.specs.List.{list_any};
+ghost use Rattle.mir_func.specs.declared.func.Block.{Block};
+ghost use Rattle.mir_func.specs.declared.func.Instr.{Instr};
+ghost use Rattle.live_lanes.specs.Touching.{FindsInstrs};
+ghost use Rattle.spiller.specs.MaySpill.{MaySpill};
 ghost use Rattle.target_base.specs.Storage.{is_within};
-ghost use Rattle.mir_func.specs.Binding.{does, passes, operand_class};
-ghost use Rattle.spiller.specs.Rematerialised.{is_constant, definition_class, whole_class, repeatable_class, serves, if_whole, copy_wish, Never, Within};
-ghost use Rattle.spiller.specs.Views.{wish_of};
+ghost use Rattle.mir_func.specs.Binding.{does, operand_class};
+ghost use Rattle.mir_meaning.specs.Paths.{has};
+ghost use Rattle.spiller.specs.Planned.{copy_key, way_key};
+ghost use Rattle.spiller.specs.Reaching.{Facts, AreFacts};
+ghost use Rattle.spiller.specs.Readings.{same_ways, same_key, source_in, goes_in, reached_in, reached_by, reaches_use, needs_value, is_only_repeated, alone, IsReading, AreDefinitions};
+ghost use Rattle.spiller.specs.Rematerialised.{is_constant, definition_class, whole_class, repeatable_class, serves, if_whole, copy_wish, Within, Reading, repeated_for};
+ghost use Rattle.spiller.specs.Setting.{own_lanes};
+ghost use Rattle.spiller.specs.Views.{spilling_of, wish_of, way_of, named_by};
 
 use crate::plan::SpillView;
-use crate::reaching::{BlockTouches, RangeTouch, ReadLanes, reach_at_starts, readings_reached};
-use crate::roles::{IndexedClass, naming_of, operand_of_range};
+use crate::reaching::{Definition, LaneReading, definitions_of};
+use crate::roles::{IndexedClass, naming_of, operand_of_range, same_naming};
 use mir_func::opcodes::{effect_of, is_terminator, is_tied, next_role, roles_of};
 use mir_func::operands::register_at;
 use mir_func::{Instr, Loc, Operand, RegOp};
@@ -38,57 +47,85 @@ pub(crate) struct UseKey {
     pub indexed_class: Option<IndexedClass>,
 }
 
-/// A reading of the range.
+/// What a reading asks.
 #[derive(Clone, Copy, PartialEq, Eq)]
-struct RematUse {
+struct RematDemand {
     key: UseKey,
+    /// The index that picks the lanes that are read.
+    index: Option<IndexId>,
     wish: RematConstraint,
-    /// The definition that reaches it, if some does.
-    def: Option<u32>,
-    /// Whether several do.
-    has_several: bool,
-    /// Whether the definition's instruction is repeated for it.
-    is_good: bool,
+}
+
+/// A reading of the range.
+#[derive(Drop)]
+struct RematUse {
+    demand: RematDemand,
+    /// The instructions that read so.
+    by: Vec<u32>,
+    /// The definition whose instruction is repeated for it.
+    source: Option<u32>,
+}
+
+/// The definition whose instruction is repeated for a reading.
+#[derive(Clone, Copy, PartialEq, Eq)]
+struct RematSource {
+    key: UseKey,
+    id: u32,
 }
 
 /// What is rematerialised.
 #[derive(Drop)]
 pub(crate) struct Remat {
-    readings: Vec<RematUse>,
-    /// The definitions that go, by their ids, in rising order.
+    sources: Vec<RematSource>,
+    /// The definitions that go, by their ids.
     deleted: Vec<u32>,
+}
+
+/// Whether both name a way of reading alike, or neither names one.
+fn same_ways(a: Option<IndexedClass>, b: Option<IndexedClass>) -> bool
+    ensures { result ≡ same_ways a b }
+{
+    match (a, b) {
+        (None, None) => true,
+        (Some(a), Some(b)) => same_naming(a, b),
+        _ => false,
+    }
+}
+
+/// Whether two readings are one.
+fn same_key(a: UseKey, b: UseKey) -> bool
+    ensures { result ≡ same_key a b }
+{
+    a.at == b.at && same_ways(a.indexed_class, b.indexed_class)
+}
+
+/// The first of these that is for a reading.
+fn find_source(sources: &[RematSource], key: UseKey) -> Option<RematSource>
+    ensures { result ≡ find (λ s. same_key key s.key) sources.now }
+{
+    sources
+        .iter()
+        .copied()
+        .find(|source| same_key(key, source.key))
 }
 
 impl Remat {
     /// The definition whose instruction is repeated for a reading.
-    pub fn source(&self, key: UseKey) -> Option<u32> {
-        let first = self
-            .readings
-            .as_slice()
-            .partition_point(|r| r.key.at < key.at);
-        'readings: for reading in self.readings.iter().skip(first) {
-            if reading.key.at != key.at {
-                return None;
-            }
-            if reading.key == key && reading.is_good {
-                return reading.def;
-            }
+    pub fn source(&self, key: UseKey) -> Option<u32>
+        ensures { result ≡ source_in self.now key }
+    {
+        match find_source(self.sources.as_slice(), key) {
+            None => None,
+            Some(source) => Some(source.id),
         }
-        None
     }
 
     /// Whether a definition goes.
-    pub fn is_deleted(&self, id: u32) -> bool {
-        let place = self.deleted.as_slice().partition_point(|other| *other < id);
-        self.deleted.get(place) == Some(&id)
+    pub fn is_deleted(&self, id: u32) -> bool
+        ensures { result ≡ goes_in self.now id }
+    {
+        has_id(self.deleted.as_slice(), id)
     }
-}
-
-/// A definition and the readings that it reaches.
-#[derive(Drop)]
-struct Reach {
-    id: u32,
-    readings: Vec<usize>,
 }
 
 /// Whether an instruction of this effect loads a constant or an address.
@@ -114,121 +151,122 @@ fn is_repeatable(target: &Target, instr: &Instr) -> bool
 /// Plans what is rematerialised of the range.
 pub(crate) fn plan_remat(view: SpillView<'_>, touched: &[u32]) -> Result<Remat, AllocError> {
     let mut remat = Remat {
-        readings: Vec::new(view.alloc),
+        sources: Vec::new(view.alloc),
         deleted: Vec::new(view.alloc),
     };
     if !has_repeatable(view, touched) {
         return Ok(remat);
     }
-    let blocks = events_of(view, touched, &mut remat.readings)?;
-    let reaches = reaches_of(view, blocks.as_slice())?;
-    note_definitions(&mut remat.readings, reaches.as_slice());
-    judge(view, &mut remat.readings);
-    delete_unread(view, reaches.as_slice(), &mut remat)?;
-    remat.deleted.sort_unstable();
-    remat.readings.sort_unstable_by_key(|r| r.key.at);
+    let definitions = definitions_of(view, touched)?;
+    let mut readings = readings_of(view, touched)?;
+    judge(view, definitions.as_slice(), &mut readings);
+    list_sources(readings.as_slice(), &mut remat.sources)?;
+    list_deleted(
+        view,
+        definitions.as_slice(),
+        readings.as_slice(),
+        &mut remat.deleted,
+    )?;
     Ok(remat)
 }
 
 fn has_repeatable(view: SpillView<'_>, touched: &[u32]) -> bool {
-    touched.iter().any(|id| match view.live.instr(*id) {
-        Some(instr) => is_repeatable(view.target, instr),
-        None => false,
-    })
+    touched.iter().any(|id| is_repeatable_id(view, *id))
 }
 
-/// The events of each block, with the readings listed.
-fn events_of(
-    view: SpillView<'_>,
-    touched: &[u32],
-    readings: &mut Vec<RematUse>,
-) -> Result<Vec<BlockTouches>, AllocError> {
-    let mut blocks = Vec::new(view.alloc);
-    'blocks: for _ in 0..view.live.func().blocks.len() {
-        blocks.push(BlockTouches {
-            list: Vec::new(view.alloc),
-        })?;
-    }
+/// The readings of the range.
+fn readings_of(view: SpillView<'_>, touched: &[u32]) -> Result<Vec<RematUse>, AllocError> {
+    let mut readings = Vec::new(view.alloc);
+    let mut place = RematPlace { at: None, first: 0 };
     'touched: for id in touched {
         if let Some(instr) = view.live.instr(*id) {
-            let event = event_of(view, instr, readings)?;
-            if let Some(events) = blocks.get_mut(view.live.position_of(*id) as usize) {
-                events.list.push(event)?;
-            }
+            add_readings(view, instr, &mut place, &mut readings)?;
         }
     }
-    Ok(blocks)
+    Ok(readings)
 }
 
-/// What an instruction does to the range, with its readings listed.
-fn event_of(
+/// The place whose readings are listed last.
+#[derive(Clone, Copy, PartialEq, Eq)]
+struct RematPlace {
+    /// The instruction that names it.
+    at: Option<u32>,
+    /// The number of readings before.
+    first: usize,
+}
+
+/// Lists the readings by an instruction.
+fn add_readings(
     view: SpillView<'_>,
     instr: &Instr,
-    readings: &mut Vec<RematUse>,
-) -> Result<RangeTouch, AllocError> {
-    let mut event = RangeTouch {
-        id: instr.id,
-        defined: view.lanes_written(instr.id),
-        reads: Vec::new(view.alloc),
-    };
-    match effect_of(view.target, instr) {
-        Some(Effect::Copy) => add_move(view, instr, 1, &mut event, readings)?,
-        Some(Effect::Spill) => add_move(view, instr, 0, &mut event, readings)?,
-        _ => add_operands(view, instr, &mut event, readings)?,
-    }
-    Ok(event)
-}
-
-/// Adds a reading to an event. Readings of one key are one.
-fn add_reading(
-    key: UseKey,
-    wish: RematConstraint,
-    lanes: u32,
-    event: &mut RangeTouch,
+    place: &mut RematPlace,
     readings: &mut Vec<RematUse>,
 ) -> Result<(), AllocError> {
-    let known = readings.iter().rev().take(64).position(|r| r.key == key);
-    let reading = match known {
-        Some(back) => readings.len().saturating_sub(back).saturating_sub(1),
-        None => {
-            readings.push(RematUse {
-                key,
-                wish,
-                def: None,
-                has_several: false,
-                is_good: false,
-            })?;
-            readings.len().saturating_sub(1)
-        }
-    };
-    event.reads.push(ReadLanes { reading, lanes })?;
+    match effect_of(view.target, instr) {
+        Some(Effect::Copy) => add_move(view, instr, 1, readings),
+        Some(Effect::Spill) => add_move(view, instr, 0, readings),
+        _ => add_operands(view, instr, place, readings),
+    }
+}
+
+/// Lists a reading by one instruction.
+fn add_reading(
+    view: SpillView<'_>,
+    demand: RematDemand,
+    by: u32,
+    readings: &mut Vec<RematUse>,
+) -> Result<(), AllocError> {
+    let mut alone = Vec::new(view.alloc);
+    alone.push(by)?;
+    readings.push(RematUse {
+        demand,
+        by: alone,
+        source: None,
+    })?;
     Ok(())
 }
 
-/// Adds the reading of a copy or a store, whose source is the operand at a place.
+/// Lists the reading by a copy or a store, whose source is the operand at a place.
 fn add_move(
     view: SpillView<'_>,
     instr: &Instr,
     source: usize,
-    event: &mut RangeTouch,
     readings: &mut Vec<RematUse>,
 ) -> Result<(), AllocError> {
-    let Some(op) = register_at(instr.operands.as_slice(), source) else {
+    let operands = instr.operands.as_slice();
+    let Some(op) = register_at(operands, source) else {
         return Ok(());
     };
-    let lanes = view.lanes_read(instr.id);
-    if !view.is_own(&op) || op.undef || lanes == 0 {
+    if !view.is_own(&op) {
         return Ok(());
     }
-    let wish = match (source, register_at(instr.operands.as_slice(), 0)) {
+    let wish = match (source, register_at(operands, 0)) {
         (1, Some(to)) => if_whole(op.index, copy_wish(to.loc)),
         _ => RematConstraint::Never,
     };
-    let key = UseKey {
-        at: instr.id,
+    let demand = move_demand(instr.id, op.index, wish);
+    add_reading(view, demand, instr.id, readings)
+}
+
+/// What the reading by a copy, a store or a tied use asks.
+fn move_demand(id: u32, index: Option<IndexId>, wish: RematConstraint) -> RematDemand
+    ensures { result ≡ record { key = copy_key id; index = index; wish = wish } }
+{
+    RematDemand {
+        key: move_key(id),
+        index,
+        wish,
+    }
+}
+
+/// How the reading by a copy, a store or a tied use is named.
+fn move_key(id: u32) -> UseKey
+    ensures { result ≡ copy_key id }
+{
+    UseKey {
+        at: id,
         indexed_class: None,
-    };
-    add_reading(key, wish, lanes, event, readings)
+    }
 }
 
 /// A wish that only a reading without an index has.
@@ -277,142 +315,193 @@ pub(crate) fn first_terminator(view: SpillView<'_>, instrs: &[Boxed<Instr>]) -> 
     instrs.len().saturating_sub(count)
 }
 
-/// Adds the readings of the operands of another instruction.
+/// Lists the readings by the operands of another instruction.
 fn add_operands(
     view: SpillView<'_>,
     instr: &Instr,
-    event: &mut RangeTouch,
+    place: &mut RematPlace,
     readings: &mut Vec<RematUse>,
 ) -> Result<(), AllocError> {
     let at = place_id(view, instr);
+    if place.at != Some(at) {
+        *place = RematPlace {
+            at: Some(at),
+            first: readings.len(),
+        };
+    }
+    let first = place.first;
     let mut roles = roles_of(view.target, instr);
     'operands: for operand in instr.operands.as_slice() {
         let (role, behind) = next_role(roles);
         roles = behind;
         if let Some(op) = operand_of_range(view, operand) {
-            if !op.def && !op.undef {
-                let (key, wish) = key_of(view, instr, at, role, &op);
-                add_reading(key, wish, view.lanes_named(op.index), event, readings)?;
+            if op.def || op.undef {
+                continue;
             }
-        }
-    }
-    Ok(())
-}
-
-/// How a place reads the range by an operand of an instruction, and what that asks. Nothing serves for
-/// tied uses.
-fn key_of(
-    view: SpillView<'_>,
-    instr: &Instr,
-    at: u32,
-    role: Option<Role>,
-    op: &RegOp,
-) -> (UseKey, RematConstraint)
-    ensures { wish_of result.1 ≡ cond (passes is_tied role) Never (if_whole op.now.index (Within (operand_class view.entry.target.now view.entry.live.now.func role op.now))) }
-{
-    if is_tied(role) {
-        let key = UseKey {
-            at: instr.id,
-            indexed_class: None,
-        };
-        return (key, RematConstraint::Never);
-    }
-    let indexed_class = naming_of(view, role, op);
-    let wish = if_whole(
-        indexed_class.index,
-        RematConstraint::Class(indexed_class.class),
-    );
-    let key = UseKey {
-        at,
-        indexed_class: Some(indexed_class),
-    };
-    (key, wish)
-}
-
-/// The readings that each definition reaches.
-fn reaches_of(view: SpillView<'_>, blocks: &[BlockTouches]) -> Result<Vec<Reach>, AllocError> {
-    let starts = reach_at_starts(view, blocks.len())?;
-    let mut reaches = Vec::new(view.alloc);
-    let mut position = 0u32;
-    'blocks: for events in blocks {
-        add_reaches(
-            view,
-            starts.as_slice(),
-            blocks,
-            events,
-            position,
-            &mut reaches,
-        )?;
-        position = position.saturating_add(1);
-    }
-    Ok(reaches)
-}
-
-fn add_reaches(
-    view: SpillView<'_>,
-    starts: &[u32],
-    blocks: &[BlockTouches],
-    events: &BlockTouches,
-    position: u32,
-    reaches: &mut Vec<Reach>,
-) -> Result<(), AllocError> {
-    let mut place = 0usize;
-    'events: for event in &events.list {
-        if event.defined != 0 {
-            let readings = readings_reached(view, starts, blocks, position, place, event.defined)?;
-            reaches.push(Reach {
-                id: event.id,
-                readings,
-            })?;
-        }
-        place = place.saturating_add(1);
-    }
-    Ok(())
-}
-
-/// Notes at each reading which definition reaches it.
-fn note_definitions(readings: &mut Vec<RematUse>, reaches: &[Reach]) {
-    'reaches: for reach in reaches {
-        note_definition(readings, reach);
-    }
-}
-
-fn note_definition(readings: &mut Vec<RematUse>, reach: &Reach) {
-    'readings: for k in &reach.readings {
-        if let Some(reading) = readings.get_mut(*k) {
-            if reading.def.is_some() {
-                reading.has_several = true;
+            if is_tied(role) {
+                let demand = move_demand(instr.id, op.index, RematConstraint::Never);
+                add_reading(view, demand, instr.id, readings)?;
             } else {
-                reading.def = Some(reach.id);
+                let demand = way_demand(view, at, role, &op);
+                add_way(view, demand, instr.id, first, readings)?;
             }
         }
     }
+    Ok(())
+}
+
+/// What a way of reading at a place asks, by an operand that reads so.
+fn way_demand(view: SpillView<'_>, at: u32, role: Option<Role>, op: &RegOp) -> RematDemand
+    ensures key { result.key ≡ way_key at (way_of view.entry.v (named_by view.entry role op.now)) }
+    ensures index { result.index ≡ op.now.index }
+    ensures wish { wish_of result.wish ≡ if_whole op.now.index (Within (operand_class view.entry.target.now view.entry.live.now.func role op.now)) }
+{
+    let indexed_class = naming_of(view, role, op);
+    RematDemand {
+        key: UseKey {
+            at,
+            indexed_class: Some(indexed_class),
+        },
+        index: op.index,
+        wish: if_whole(op.index, RematConstraint::Class(indexed_class.class)),
+    }
+}
+
+/// Lists that an instruction reads in a way, at the place whose readings are those from a number on.
+/// Each way of reading at a place is one reading.
+fn add_way(
+    view: SpillView<'_>,
+    demand: RematDemand,
+    by: u32,
+    first: usize,
+    readings: &mut Vec<RematUse>,
+) -> Result<(), AllocError> {
+    'readings: for k in first..readings.len() {
+        if same_key(readings[k].demand.key, demand.key) {
+            readings[k].by.push(by)?;
+            return Ok(());
+        }
+    }
+    add_reading(view, demand, by, readings)
+}
+
+/// Whether an index picks a lane of the range.
+fn picks_lane(view: SpillView<'_>, index: Option<IndexId>, lane: u32) -> bool
+    ensures { (slot : ℕ) (facts : Facts) → result ≡ has lane (own_lanes (spilling_of view.entry slot facts) index) }
+{
+    match index {
+        None => (lane as usize) < view.lane_count(),
+        Some(index) => has_lane(view.target.lanes_at(index), lane),
+    }
+}
+
+/// Whether a lane is one of these.
+fn has_lane(lanes: &[u8], lane: u32) -> bool
+    ensures { result ≡ has lane lanes.now }
+{
+    'lanes: for other in lanes {
+        if *other as u32 == lane {
+            return true;
+        }
+    }
+    false
+}
+
+/// Whether an instruction is one of these.
+fn has_id(ids: &[u32], id: u32) -> bool
+    ensures { result ≡ has id ids.now }
+{
+    'ids: for other in ids {
+        if *other == id {
+            return true;
+        }
+    }
+    false
+}
+
+/// Whether a lane and an instruction are among those of a reading.
+fn is_part(view: SpillView<'_>, reading: &RematUse, reached: LaneReading) -> bool
+    ensures { (slot : ℕ) (facts : Facts) → result ≡ (has reached.lane (own_lanes (spilling_of view.entry slot facts) reading.now.demand.index) && has reached.by reading.now.by.items) }
+{
+    picks_lane(view, reading.demand.index, reached.lane)
+        && has_id(reading.by.as_slice(), reached.by)
+}
+
+/// Whether a definition reaches a reading: at one of its instructions, of one of its lanes.
+fn reaches(view: SpillView<'_>, definition: &Definition, reading: &RematUse) -> bool
+    ensures { (slot : ℕ) (facts : Facts) → result ≡ reached_by reading.now.by.items (own_lanes (spilling_of view.entry slot facts) reading.now.demand.index) definition.now }
+{
+    is_one_part(view, definition.reached.as_slice(), reading)
+}
+
+/// Whether one of these is among the lanes and instructions of a reading.
+fn is_one_part(view: SpillView<'_>, reached: &[LaneReading], reading: &RematUse) -> bool
+    ensures { (slot : ℕ) (facts : Facts) → result ≡ reached_in reading.now.by.items (own_lanes (spilling_of view.entry slot facts) reading.now.demand.index) reached.now }
+{
+    'parts: for one in reached {
+        if is_part(view, reading, *one) {
+            return true;
+        }
+    }
+    false
+}
+
+/// The definition that reaches a reading, where there is just one.
+fn only_definition(
+    view: SpillView<'_>,
+    definitions: &[Definition],
+    reading: &RematUse,
+) -> Option<u32>
+    ensures { (slot : ℕ) (facts : Facts) → result ≡ alone (map (λ d. d.id) (filter (reached_by reading.now.by.items (own_lanes (spilling_of view.entry slot facts) reading.now.demand.index)) definitions.now)) }
+{
+    let mut only = None;
+    'definitions: for definition in definitions {
+        if !reaches(view, definition, reading) {
+            continue;
+        }
+        if only.is_some() {
+            return None;
+        }
+        only = Some(definition.id);
+    }
+    only
 }
 
 /// Decides which readings are rematerialised.
-fn judge(view: SpillView<'_>, readings: &mut Vec<RematUse>) {
+fn judge(view: SpillView<'_>, definitions: &[Definition], readings: &mut Vec<RematUse>) {
     'readings: for k in 0..readings.len() {
-        if let Some(reading) = readings.get_mut(k) {
-            reading.is_good = is_good(view, reading);
-        }
+        let source = source_of(view, definitions, &readings[k]);
+        readings[k].source = source;
     }
 }
 
-fn is_good(view: SpillView<'_>, reading: &RematUse) -> bool {
-    if reading.has_several {
-        return false;
+/// Whether an instruction, by its id, gives what a reading asks for.
+fn id_serves(view: SpillView<'_>, wish: RematConstraint, id: u32) -> bool
+    ensures { FindsInstrs view.entry.live.now.table view.entry.live.now.func.blocks → (p j : ℕ) (b : Block) (i : Instr) → slice_get view.entry.live.now.func.blocks p ≡ Some b → slice_get b.instrs j ≡ Some i → i.id ≡ id
+        → result ≡ serves view.entry.target.now (wish_of wish) (repeatable_class view.entry.target.now i) }
+{
+    match view.live.instr(id) {
+        Some(instr) => serves(view.target, wish, repeatable_class(view.target, instr)),
+        None => false,
     }
-    let Some(id) = reading.def else {
-        return false;
-    };
-    let Some(instr) = view.live.instr(id) else {
-        return false;
-    };
-    serves(
-        view.target,
-        reading.wish,
-        repeatable_class(view.target, instr),
-    )
+}
+
+/// The definition whose instruction is repeated for a reading.
+fn source_of(view: SpillView<'_>, definitions: &[Definition], reading: &RematUse) -> Option<u32>
+    ensures { (slot : ℕ) (facts : Facts) (r : Reading) (ids : List ℕ)
+        → MaySpill view.entry.target.now view.entry.live.now.func view.entry.live.now.table view.entry.v → AreDefinitions view.entry.target.now view.entry.live.now.func view.entry.live.now.table view.entry.v ids definitions.now
+        → AreFacts view.entry.target.now view.entry.live.now.func view.entry.v facts → IsReading (spilling_of view.entry slot facts) r reading.now → result ≡ option_map (λ d. d.id) (repeated_for (spilling_of view.entry slot facts) r) }
+{
+    match only_definition(view, definitions, reading) {
+        None => None,
+        Some(id) => {
+            if id_serves(view, reading.demand.wish, id) {
+                Some(id)
+            } else {
+                None
+            }
+        }
+    }
 }
 
 /// Whether an instruction that may be repeated for a class gives what a reading asks for.
@@ -462,33 +551,87 @@ fn definition_class(roles: &[Role]) -> Option<ClassId>
     }
 }
 
-/// Lists the definitions that go: those that reach a reading, each of which is rematerialised.
-fn delete_unread(
-    view: SpillView<'_>,
-    reaches: &[Reach],
-    remat: &mut Remat,
-) -> Result<(), AllocError> {
-    'reaches: for reach in reaches {
-        let is_read = !reach.readings.is_empty();
-        if is_read && are_good(remat.readings.as_slice(), reach.readings.as_slice()) {
-            if is_repeatable_id(view, reach.id) {
-                remat.deleted.push(reach.id)?;
-            }
+/// Lists the readings that are rematerialised, each with its source.
+fn list_sources(readings: &[RematUse], sources: &mut Vec<RematSource>) -> Result<(), AllocError> {
+    'readings: for reading in readings {
+        if let Some(id) = reading.source {
+            sources.push(RematSource {
+                key: reading.demand.key,
+                id,
+            })?;
         }
     }
     Ok(())
 }
 
-fn is_repeatable_id(view: SpillView<'_>, id: u32) -> bool {
+/// Lists the definitions that go.
+fn list_deleted(
+    view: SpillView<'_>,
+    definitions: &[Definition],
+    readings: &[RematUse],
+    deleted: &mut Vec<u32>,
+) -> Result<(), AllocError> {
+    'definitions: for definition in definitions {
+        if is_needless(view, definition, readings) {
+            deleted.push(definition.id)?;
+        }
+    }
+    Ok(())
+}
+
+/// Whether a definition isn't needed: a constant or an address that reaches readings, which are all
+/// rematerialised.
+fn is_needless(view: SpillView<'_>, definition: &Definition, readings: &[RematUse]) -> bool
+    ensures { (slot : ℕ) (facts : Facts) → FindsInstrs view.entry.live.now.table view.entry.live.now.func.blocks → (p j : ℕ) (b : Block) (i : Instr) → slice_get view.entry.live.now.func.blocks p ≡ Some b → slice_get b.instrs j ≡ Some i → i.id ≡ definition.now.id
+        → result ≡ (does is_constant view.entry.target.now i && is_only_repeated (spilling_of view.entry slot facts) definition.now readings.now) }
+{
+    is_repeatable_id(view, definition.id) && is_only_repeated(view, definition, readings)
+}
+
+/// Whether a definition reaches a reading, and those that it reaches are all rematerialised.
+fn is_only_repeated(view: SpillView<'_>, definition: &Definition, readings: &[RematUse]) -> bool
+    ensures { (slot : ℕ) (facts : Facts) → result ≡ is_only_repeated (spilling_of view.entry slot facts) definition.now readings.now }
+{
+    reaches_some(view, definition, readings) && !is_needed(view, definition, readings)
+}
+
+/// Whether a definition reaches one of these readings.
+fn reaches_some(view: SpillView<'_>, definition: &Definition, readings: &[RematUse]) -> bool
+    ensures { (slot : ℕ) (facts : Facts) → result ≡ list_any (reaches_use (spilling_of view.entry slot facts) definition.now) readings.now }
+{
+    'uses: for reading in readings {
+        if reaches(view, definition, reading) {
+            return true;
+        }
+    }
+    false
+}
+
+/// Whether a definition reaches one of these readings that isn't rematerialised.
+fn is_needed(view: SpillView<'_>, definition: &Definition, readings: &[RematUse]) -> bool
+    ensures { (slot : ℕ) (facts : Facts) → result ≡ list_any (needs_value (spilling_of view.entry slot facts) definition.now) readings.now }
+{
+    'uses: for reading in readings {
+        if needs_value(view, definition, reading) {
+            return true;
+        }
+    }
+    false
+}
+
+/// Whether a definition reaches a reading that isn't rematerialised.
+fn needs_value(view: SpillView<'_>, definition: &Definition, reading: &RematUse) -> bool
+    ensures { (slot : ℕ) (facts : Facts) → result ≡ needs_value (spilling_of view.entry slot facts) definition.now reading.now }
+{
+    reaches(view, definition, reading) && !reading.source.is_some()
+}
+
+fn is_repeatable_id(view: SpillView<'_>, id: u32) -> bool
+    ensures { FindsInstrs view.entry.live.now.table view.entry.live.now.func.blocks → (p j : ℕ) (b : Block) (i : Instr) → slice_get view.entry.live.now.func.blocks p ≡ Some b → slice_get b.instrs j ≡ Some i → i.id ≡ id
+        → result ≡ does is_constant view.entry.target.now i }
+{
     match view.live.instr(id) {
         Some(instr) => is_repeatable(view.target, instr),
         None => false,
     }
-}
-
-fn are_good(readings: &[RematUse], places: &[usize]) -> bool {
-    places.iter().all(|k| match readings.get(*k) {
-        Some(reading) => reading.is_good,
-        None => false,
-    })
 }
