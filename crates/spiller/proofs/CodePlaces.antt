@@ -1,10 +1,10 @@
 -- Where blocks and instructions stand in the code of points: each place is the rest of one block, and no two are the same.
-use Rattle.std.proofs.Common.{◌≡◌, ◌∙◌, ℕ, zero, suc, ◌+◌, ◌<◌, ◌≤◌, Bool, true, false, cond, not, List, [], ◌∷◌, ◌++◌, Option, Some, None, map, length, take, drop, refl, sym, ap, subst, arith, eqb, eqb-true}
+use Rattle.std.proofs.Common.{◌≡◌, ◌∙◌, ℕ, zero, suc, ◌+◌, ◌<◌, ◌≤◌, Bool, true, false, cond, not, List, [], ◌∷◌, ◌++◌, Some, map, length, drop, refl, sym, ap, subst, arith, eqb, eqb-true}
 use Rattle.std.specs.Prelude.{nat_eq, slice_get, slice_index}
 use Rattle.std.proofs.lemmas.Bool.{ltb-true, eq-eqb, lt-ltb}
 use Rattle.target_base.specs.declared.types.Target.{Target}
 use Rattle.meaning.specs.Code.{Code, BlockStart, found}
-use Rattle.meaning.specs.Live.{Among as Member, here as first, there as later}
+use Rattle.meaning.specs.Live.{Among as Member}
 use Rattle.mir_func.specs.declared.func.Instr.{Instr}
 use Rattle.mir_func.specs.declared.func.Block.{Block}
 use Rattle.mir_func.specs.Value.{Function}
@@ -14,7 +14,7 @@ use Rattle.mir_meaning.specs.Codes.{block_end, blocks_code}
 use Rattle.mir_meaning.specs.Points.{point_item, has_instr, block_rest, from_instr}
 use Rattle.mir_meaning.specs.Paths.{has}
 use Rattle.instr_effects.proofs.Members.{map-in}
-use Rattle.live_lanes.specs.Ordered.{ids_of, AreHomes, AreRising}
+use Rattle.live_lanes.specs.Ordered.{ids_of, AreRising}
 use Rattle.live_lanes.specs.Table.{Numbers}
 use Rattle.live_lanes.proofs.Finding.{stands-there}
 use Rattle.live_laws.proofs.Effects.Moved.{Apart}

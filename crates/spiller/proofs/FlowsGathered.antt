@@ -1,26 +1,23 @@
 -- What is gathered of a lane's flow, block by block and instruction by instruction.
-use Rattle.std.proofs.Common.{◌≡◌, ◌∙◌, ◌⊎◌, ℕ, zero, suc, ◌+◌, ◌<◌, ◌≤◌, Bool, true, false, cond, not, ◌&&◌, ◌||◌, List, [], ◌∷◌, ◌++◌, Option, Some, None, map, filter, flat_map, length, get_or, take, refl, sym, ap, subst, inl, inr, arith, eqb-true}
-use Rattle.std.specs.Prelude.{◌↔◌, nat_eq, slice_get, slice_index}
-use Rattle.std.specs.List.{list_any}
+use Rattle.std.proofs.Common.{◌≡◌, ◌∙◌, ◌⊎◌, ℕ, ◌+◌, ◌<◌, Bool, true, false, cond, ◌&&◌, ◌||◌, List, [], ◌∷◌, ◌++◌, map, filter, flat_map, length, get_or, take, refl, sym, ap, subst, inl, inr, arith, eqb-true}
+use Rattle.std.specs.Prelude.{◌↔◌, nat_eq, slice_index}
 use Rattle.std.proofs.lemmas.Bool.{eq-eqb}
-use Rattle.std.proofs.lemmas.List.{map-append, take_more, take_all}
+use Rattle.std.proofs.lemmas.List.{map-append, take_more}
 use Rattle.std.proofs.lemmas.List.Elements.{filter-append}
-use Rattle.meaning.specs.Live.{Among as Member, here as first, there as later}
+use Rattle.meaning.specs.Live.{Among as Member, here as first}
 use Rattle.mir_func.specs.declared.func.Block.{Block}
 use Rattle.mir_meaning.specs.Paths.{has}
 use Rattle.instr_effects.proofs.Members.{member-none, member-elim, left-in, right-in, either-elim, flat-of, flat-in}
 use Rattle.live_lanes.specs.declared.table.Table.{Table}
 use Rattle.live_lanes.specs.Ways.{successors}
-use Rattle.live_laws.proofs.Touch.Cells.{or-cases, or-left, or-right, any-of}
-use Rattle.live_laws.proofs.Effects.Lists.{any-in}
+use Rattle.live_laws.proofs.Touch.Cells.{or-cases, or-left, or-right}
 use Rattle.live_laws.proofs.Touch.Sequence.{has-member, member-has}
 use Rattle.spiller.specs.declared.reaching.BlockTouches.{BlockTouches}
 use Rattle.spiller.specs.declared.reaching.Definition.{Definition}
 use Rattle.spiller.specs.declared.reaching.LaneFlow.{LaneFlow}
 use Rattle.spiller.specs.declared.reaching.LaneReading.{LaneReading}
 use Rattle.spiller.specs.declared.reaching.LaneTouch.{LaneTouch}
-use Rattle.spiller.specs.Walks.{touch_of, touches_at, touches_in, rest_behind, seen, Enters, reached_at, AddsTouch, AddsSeen, IsFlow, HasFlows, IsSeen, FlowsTo, ListsFlows, lists}
-use Rattle.spiller.proofs.Walking.{has-join}
+use Rattle.spiller.specs.Walks.{touch_of, touches_at, touches_in, rest_behind, seen, Enters, reached_at, AddsTouch, AddsSeen, IsFlow, HasFlows, IsSeen, FlowsTo, lists}
 
 -- one more instruction that touches the range
 

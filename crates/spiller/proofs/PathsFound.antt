@@ -1,19 +1,14 @@
 -- What the walk finds of a lane of a range is what paths of the code say: which readings a definition reaches.
-use Rattle.std.proofs.Common.{◌≡◌, ◌∙◌, ◌⊎◌, ℕ, zero, suc, ◌+◌, ◌<◌, ◌≤◌, Bool, true, false, cond, not, ◌&&◌, ◌||◌, List, [], ◌∷◌, ◌++◌, Option, Some, None, map, length, take, drop, refl, sym, ap, subst, inl, inr, arith, eqb-true}
-use Rattle.std.specs.Prelude.{◌↔◌, option_map, nat_eq, slice_get, is_some, filter_map}
+use Rattle.std.proofs.Common.{◌≡◌, ◌∙◌, ◌⊎◌, ℕ, suc, ◌+◌, ◌≤◌, Bool, true, false, cond, not, ◌||◌, List, [], ◌∷◌, ◌++◌, Option, Some, None, map, length, take, drop, refl, sym, ap, subst, inl, inr, arith, eqb-true}
+use Rattle.std.specs.Prelude.{◌↔◌, option_map, nat_eq, slice_get}
 use Rattle.std.specs.List.{list_any}
-use Rattle.std.specs.Ordering.{nat_cmp}
-use Rattle.std.specs.BTreeMap.{get}
 use Rattle.std.proofs.lemmas.Bool.{eq-eqb}
 use Rattle.target_base.specs.declared.types.Effect.{Effect}
 use Rattle.target_base.specs.declared.types.Target.{Target}
 use Rattle.meaning.specs.declared.types.Lane.{Lane}
 use Rattle.meaning.specs.declared.types.Lane.TheVariants.{VirtualLane}
-use Rattle.meaning.specs.declared.types.Fill.TheVariants.{Moved}
-use Rattle.meaning.specs.declared.types.Source.TheVariants.{FromLane}
-use Rattle.meaning.specs.Lanes.{filled}
-use Rattle.meaning.specs.Code.{Edge, Item, BlockEnd, Code, found}
-use Rattle.meaning.specs.Live.{Among as Member, here as first, there as later, exits_of, in_order, Writing, Live, read, next, leap, phi, store, kept, LiveAfter, after_next, after_leap, after_phi, is_slot}
+use Rattle.meaning.specs.Code.{Edge, Code, found}
+use Rattle.meaning.specs.Live.{Among as Member, here as first, there as later, exits_of, in_order, Writing, is_slot}
 use Rattle.mir_func.specs.declared.func.Edge.{Edge as Way}
 use Rattle.mir_func.specs.declared.func.Instr.{Instr}
 use Rattle.mir_func.specs.declared.func.Block.{Block}
@@ -27,25 +22,23 @@ use Rattle.mir_meaning.specs.Paths.{Body, has, Among, exits_of as exits_at_block
 use Rattle.instr_effects.specs.Numbered.{number_in}
 use Rattle.instr_effects.specs.Steps.{Numbering}
 use Rattle.instr_effects.specs.Stepping.{tag_of}
-use Rattle.instr_effects.proofs.Members.{member-none, member-elim, map-of, map-in}
+use Rattle.instr_effects.proofs.Members.{member-none, map-in}
 use Rattle.live_lanes.specs.declared.table.Table.{Table}
 use Rattle.live_lanes.specs.Doing.{IsComputed}
 use Rattle.live_lanes.specs.Ordered.{ids_of, place_of, AreRising}
-use Rattle.live_lanes.specs.Flowing.{exits_at, edge_places}
+use Rattle.live_lanes.specs.Flowing.{edge_places}
 use Rattle.live_lanes.specs.Ways.{successors}
-use Rattle.live_lanes.specs.Touching.{begun_at, reads_lane}
-use Rattle.live_laws.specs.Acts.{Reading, AtInstr, TellsActs}
+use Rattle.live_laws.specs.Acts.{Reading, TellsActs}
 use Rattle.live_laws.specs.Effects.Shaped.{is_proper}
-use Rattle.live_laws.specs.Effects.Coded.{place_of as coded_place, instr_step, body_of, exits_from, numbered_code, number_at, spot_in, KeepsRules, IsNumbered}
+use Rattle.live_laws.specs.Effects.Coded.{place_of as coded_place, instr_step, body_of, exits_from, numbered_code, spot_in, KeepsRules, IsNumbered}
 use Rattle.live_laws.proofs.Effects.Blocks.{of-among, slice-map, slice-member, member-slice, filtered-of, filtered-in, numbers-apart, place-block}
 use Rattle.live_laws.proofs.Effects.Instrs.{same-law, written-law}
 use Rattle.live_laws.proofs.Effects.Lists.{any-in}
 use Rattle.live_laws.proofs.Effects.Tabled.{table-law}
-use Rattle.live_laws.proofs.Effects.Whole.{step-at, is-out, points-are}
+use Rattle.live_laws.proofs.Effects.Whole.{step-at, is-out}
 use Rattle.live_laws.proofs.Exact.Coded.{place-same}
 use Rattle.live_laws.proofs.Exact.Everywhere.{spot-at}
 use Rattle.live_laws.proofs.Exact.Quiet.{is_range_lane, writes-units}
-use Rattle.live_laws.proofs.Exact.Spots.{exit-numbered}
 use Rattle.live_laws.proofs.Acts.Told.{acts-law}
 use Rattle.live_laws.proofs.Touch.Sequence.{has-member, member-has}
 use Rattle.spiller.specs.declared.reaching.LaneTouch.{LaneTouch}

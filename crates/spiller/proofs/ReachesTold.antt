@@ -1,6 +1,6 @@
 -- The readings that are listed at definitions are those that these reach along paths of the code.
-use Rattle.std.proofs.Common.{◌≡◌, ◌∙◌, ◌⊎◌, ℕ, zero, suc, ◌+◌, ◌<◌, ◌≤◌, Bool, true, false, cond, not, ◌&&◌, ◌||◌, List, [], ◌∷◌, ◌++◌, Option, Some, None, map, filter, flat_map, length, take, drop, refl, sym, ap, subst, inl, inr, arith, eqb-true}
-use Rattle.std.specs.Prelude.{◌↔◌, Decides, nat_eq, slice_get, slice_index}
+use Rattle.std.proofs.Common.{◌≡◌, ◌∙◌, ◌⊎◌, ℕ, zero, suc, ◌+◌, ◌<◌, Bool, true, false, cond, not, ◌&&◌, ◌||◌, List, [], ◌∷◌, ◌++◌, Some, map, filter, flat_map, length, take, drop, refl, sym, ap, subst, inl, inr, arith, eqb-true}
+use Rattle.std.specs.Prelude.{◌↔◌, nat_eq, slice_get, slice_index}
 use Rattle.std.specs.List.{list_any}
 use Rattle.std.proofs.lemmas.Bool.{eq-eqb}
 use Rattle.std.proofs.lemmas.List.{map-append}
@@ -37,17 +37,16 @@ use Rattle.live_laws.proofs.Effects.Whole.{points-are}
 use Rattle.live_laws.proofs.Exact.Inside.{has-id}
 use Rattle.live_laws.proofs.Exact.Spots.{drop-at}
 use Rattle.live_laws.proofs.Touch.Cells.{any-of}
-use Rattle.live_laws.proofs.Touch.Sequence.{has-member, member-has}
+use Rattle.live_laws.proofs.Touch.Sequence.{has-member}
 use Rattle.live_laws.proofs.Touch.Touched.{touched-law}
-use Rattle.spiller.specs.declared.reaching.BlockTouches.{BlockTouches}
 use Rattle.spiller.specs.declared.reaching.Definition.{Definition}
 use Rattle.spiller.specs.declared.reaching.LaneFlow.{LaneFlow}
 use Rattle.spiller.specs.declared.reaching.LaneTouch.{LaneTouch}
 use Rattle.spiller.specs.MaySpill.{MaySpill}
 use Rattle.spiller.specs.Reaching.{Brings, Leads, Reaches, Reads}
-use Rattle.spiller.specs.Walks.{touch_of, touches_at, touches_in, seen, keeps, rest_behind, is_open, Enters, leaves, goes_on, dead_at, IsFlow, HasFlows, IsSeen, FlowsTo, ListsFlows, lists, told_by}
-use Rattle.spiller.proofs.CodePlaces.{at-id, AtId}
-use Rattle.spiller.proofs.PathsFound.{Part, From, goal-place, leads-from, from-leads, numbered, orderly, part-code, part-more, place, reads-told, writes-told, ends-at}
+use Rattle.spiller.specs.Walks.{touch_of, touches_at, touches_in, seen, keeps, rest_behind, dead_at, IsFlow, HasFlows, IsSeen, FlowsTo, ListsFlows, lists, told_by}
+use Rattle.spiller.proofs.CodePlaces.{at-id}
+use Rattle.spiller.proofs.PathsFound.{Part, leads-from, from-leads, numbered, orderly, part-code, part-more, place, reads-told, writes-told, ends-at}
 use Rattle.spiller.proofs.Untouched.{written-lane, unnamed-reads, unnamed-writes}
 use Rattle.spiller.proofs.WalkFound.{found-from, from-found, entered-block}
 

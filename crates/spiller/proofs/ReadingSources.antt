@@ -1,5 +1,5 @@
 -- The definitions that reach a reading are those at which it is listed, and so is what is repeated for it.
-use Rattle.std.proofs.Common.{◌≡◌, ◌∙◌, ℕ, ◌<◌, Bool, true, false, cond, ◌&&◌, ◌||◌, List, [], ◌∷◌, ◌++◌, Option, Some, None, map, filter, flat_map, refl, sym, ap, subst, arith, eqb-true}
+use Rattle.std.proofs.Common.{◌≡◌, ◌∙◌, ℕ, Bool, true, false, cond, ◌&&◌, ◌||◌, List, [], ◌∷◌, Some, None, map, filter, flat_map, refl, sym, ap, subst, arith, eqb-true}
 use Rattle.std.specs.Prelude.{Decides, nat_eq, option_map, slice_get}
 use Rattle.std.specs.List.{list_any}
 use Rattle.std.proofs.lemmas.Bool.{eq-eqb}
@@ -12,7 +12,7 @@ use Rattle.mir_meaning.specs.Points.{touches}
 use Rattle.mir_meaning.specs.Paths.{has}
 use Rattle.instr_effects.proofs.Members.{member-none, member-elim, map-in, filter-of, flat-of}
 use Rattle.live_lanes.specs.declared.table.Table.{Table}
-use Rattle.live_lanes.specs.Touching.{AreTouched, layout_key, names_range}
+use Rattle.live_lanes.specs.Touching.{layout_key}
 use Rattle.live_laws.proofs.Effects.Blocks.{member-slice}
 use Rattle.live_laws.proofs.Effects.Lists.{any-in}
 use Rattle.live_laws.proofs.Effects.Moved.{Apart}
@@ -21,7 +21,7 @@ use Rattle.live_laws.proofs.Touch.Sequence.{Rise, rise-of, has-member, member-ha
 use Rattle.spiller.specs.declared.reaching.Definition.{Definition}
 use Rattle.spiller.specs.MaySpill.{MaySpill}
 use Rattle.spiller.specs.Reaching.{Facts, AreFacts}
-use Rattle.spiller.specs.Readings.{AreDefinitions, alone, reached_by, reached_in}
+use Rattle.spiller.specs.Readings.{AreDefinitions, alone, reached_by}
 use Rattle.spiller.specs.Rematerialised.{Reading, if_serves, reaches, reaching, repeatable_class, repeated_for, serves}
 use Rattle.spiller.specs.Setting.{Spilling}
 use Rattle.spiller.specs.Walks.{lists, told_by}

@@ -1,5 +1,5 @@
 -- Which definitions reach a reading, by what is listed at them.
-use Rattle.std.proofs.Common.{◌≡◌, ◌∙◌, ℕ, zero, suc, ◌+◌, ◌<◌, ◌≤◌, Bool, true, false, cond, ◌&&◌, ◌||◌, List, [], ◌∷◌, ◌++◌, Option, Some, None, map, filter, length, get_or, take, drop, refl, sym, ap, subst, arith, eqb-true}
+use Rattle.std.proofs.Common.{◌≡◌, ◌∙◌, ℕ, zero, suc, ◌+◌, ◌<◌, ◌≤◌, Bool, true, false, cond, ◌&&◌, ◌||◌, List, [], ◌∷◌, ◌++◌, Option, Some, None, map, filter, length, get_or, take, drop, refl, sym, ap, arith, eqb-true}
 use Rattle.std.specs.Prelude.{nat_eq, nat_lt, is_some}
 use Rattle.std.specs.List.{list_any}
 use Rattle.std.proofs.lemmas.List.{map-append, take_more}
@@ -10,7 +10,7 @@ use Rattle.mir_meaning.specs.Registers.{numbers}
 use Rattle.spiller.specs.declared.reaching.Definition.{Definition}
 use Rattle.spiller.specs.declared.reaching.LaneReading.{LaneReading}
 use Rattle.spiller.specs.Walks.{lists}
-use Rattle.spiller.specs.Readings.{alone, reached_in, reached_by}
+use Rattle.spiller.specs.Readings.{alone, reached_in}
 
 same-sides : (a b : ℕ) → nat_eq a b ≡ nat_eq b a
 same-sides a b = grind arith

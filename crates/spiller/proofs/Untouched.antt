@@ -1,5 +1,5 @@
 -- By the table, an instruction that doesn't touch a range neither reads nor writes a lane of it.
-use Rattle.std.proofs.Common.{◌≡◌, ◌∙◌, ℕ, zero, suc, ◌+◌, ◌<◌, Bool, true, false, cond, not, ◌||◌, List, [], ◌∷◌, Option, Some, None, map, find, refl, sym, ap, subst, arith}
+use Rattle.std.proofs.Common.{◌≡◌, ◌∙◌, ℕ, zero, suc, ◌+◌, ◌<◌, Bool, true, false, cond, ◌||◌, List, [], ◌∷◌, Option, Some, None, map, find, refl, ap, subst}
 use Rattle.std.specs.Prelude.{nat_eq, nat_lt, is_some, slice_get, slice_index}
 use Rattle.std.specs.List.{list_any}
 use Rattle.std.proofs.lemmas.Bool.{ltb-true}
@@ -13,7 +13,7 @@ use Rattle.live_lanes.specs.declared.row.DefPiece.{DefPiece}
 use Rattle.live_lanes.specs.declared.row.Cell.{Cell}
 use Rattle.live_lanes.specs.declared.row.LaneRange.{LaneRange}
 use Rattle.live_lanes.specs.declared.table.Table.{Table}
-use Rattle.live_lanes.specs.Entered.{cells_of, rows_seen}
+use Rattle.live_lanes.specs.Entered.{rows_seen}
 use Rattle.live_lanes.specs.Extents.{lanes_count}
 use Rattle.live_lanes.specs.Table.{Seen, begun, find_cell, piece_at, readings_in, seen, seen_in, unseen, begun_readings, entry_rank}
 use Rattle.live_lanes.specs.Touching.{begun_at, begun_by, is_counted, names_cell, names_lane, names_range, names_segment, reads_in, reads_lane, some_of}

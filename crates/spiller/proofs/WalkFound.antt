@@ -1,6 +1,6 @@
 -- A walk over the instructions that touch a range finds what paths of the code say, though it enters no block at whose start the lane is dead.
-use Rattle.std.proofs.Common.{◌≡◌, ◌∙◌, ◌⊎◌, ℕ, zero, suc, ◌+◌, Bool, true, false, cond, not, List, [], ◌∷◌, ◌++◌, Option, Some, None, map, drop, refl, sym, ap, subst, inl, inr}
-use Rattle.std.specs.Prelude.{◌↔◌, slice_get}
+use Rattle.std.proofs.Common.{◌≡◌, ◌∙◌, ◌⊎◌, ℕ, zero, suc, Bool, true, false, not, List, [], ◌∷◌, Some, map, refl, sym, ap, subst, inl, inr}
+use Rattle.std.specs.Prelude.{slice_get}
 use Rattle.std.specs.Ordering.{nat_cmp}
 use Rattle.std.specs.BTreeMap.{get}
 use Rattle.target_base.specs.declared.types.Target.{Target}
@@ -11,14 +11,14 @@ use Rattle.meaning.specs.declared.types.Source.TheVariants.{FromLane}
 use Rattle.meaning.specs.declared.types.Write.{Write}
 use Rattle.meaning.specs.Lanes.{filled}
 use Rattle.meaning.specs.Code.{Edge, Item, Code, found}
-use Rattle.meaning.specs.Live.{Among as Member, exits_of, writes_of, in_order, Writing, Feeds, Live, read, next, leap, phi, store, kept, LiveAfter, KeptAfter, after_next, after_leap, after_phi, is_slot}
+use Rattle.meaning.specs.Live.{Among as Member, exits_of, writes_of, Feeds, Live, read, next, leap, phi, store, kept, KeptAfter, after_next, after_leap, after_phi, is_slot}
 use Rattle.mir_func.specs.declared.func.Instr.{Instr}
 use Rattle.mir_func.specs.declared.func.Block.{Block}
 use Rattle.mir_func.specs.Value.{Function}
 use Rattle.mir_meaning.specs.Registers.{is_reserved}
 use Rattle.mir_meaning.specs.Rules.{V8}
-use Rattle.mir_meaning.specs.Codes.{ways_out, block_end, blocks_code}
-use Rattle.mir_meaning.specs.Points.{point_item, points_of, LiveAt, Start}
+use Rattle.mir_meaning.specs.Codes.{ways_out, blocks_code}
+use Rattle.mir_meaning.specs.Points.{point_item, LiveAt, Start}
 use Rattle.mir_meaning.specs.Paths.{has}
 use Rattle.mir_meaning.specs.Stands.{Reaches as Fills}
 use Rattle.instr_effects.specs.Numbered.{number_in}
@@ -38,7 +38,7 @@ use Rattle.live_laws.proofs.Exact.Computed.{computed-law}
 use Rattle.spiller.specs.declared.reaching.BlockTouches.{BlockTouches}
 use Rattle.spiller.specs.declared.reaching.LaneTouch.{LaneTouch}
 use Rattle.spiller.specs.Walks.{touch_of, touches_at, seen, keeps, is_open, Enters, leaves, goes_on, dead_at}
-use Rattle.spiller.proofs.PathsFound.{Part, whole-part, part-more, Follows, sees, goes, keeps-head, numbered, From, goal-place, goal-is, place, touches, seen-cases, silent, orderly, out-back, block-start, reads-told}
+use Rattle.spiller.proofs.PathsFound.{Part, whole-part, part-more, Follows, sees, goes, keeps-head, numbered, From, goal-is, place, seen-cases, silent, orderly, out-back, block-start, reads-told}
 
 -- a reading is a place where the lane is live
 

@@ -1,5 +1,5 @@
 -- How what an instruction writes to a lane of a range flows on, from block to block, by what the instructions that touch the range do to the lane.
-use Rattle.std.specs.Prelude.{◌≡◌, ◌⊎◌, ◌↔◌, ℕ, Bool, true, false, cond, not, ◌&&◌, ◌||◌, ◌<◌, nat_eq, List, [], ◌∷◌, ◌++◌, map, filter, length, Option, Some, None, is_some, slice_get, slice_index}
+use Rattle.std.specs.Prelude.{◌≡◌, ◌⊎◌, ◌↔◌, ℕ, Bool, true, false, cond, not, ◌&&◌, ◌<◌, nat_eq, List, [], ◌∷◌, ◌++◌, map, filter, length, Some, None, is_some, slice_get, slice_index}
 use Rattle.std.specs.List.{list_any}
 use Rattle.mir_meaning.specs.Paths.{has}
 use Rattle.instr_effects.specs.Numbered.{number_in}

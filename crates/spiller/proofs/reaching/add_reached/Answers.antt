@@ -1,4 +1,4 @@
-use Rattle.std.proofs.Common.{◌≡◌, ◌∙◌, ◌++◌, ap, map, flat_map}
+use Rattle.std.proofs.Common.{◌∙◌, ◌++◌, ap, map, flat_map}
 use Rattle.live_lanes.specs.Ways.{successors as ways_behind}
 use Rattle.live_lanes.proofs.Raised.{on-ok}
 use Rattle.spiller.specs.Walks.{reached_at, seen, touches_at}

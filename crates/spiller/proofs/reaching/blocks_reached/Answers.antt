@@ -1,4 +1,4 @@
-use Rattle.std.proofs.Common.{◌≡◌, ◌≤◌, ◌<◌, ap, ◌∙◌, length, subst, arith, [], cond}
+use Rattle.std.proofs.Common.{◌≤◌, ◌<◌, ap, ◌∙◌, length, subst, arith, [], cond}
 use Rattle.live_lanes.specs.Ways.{successors as ways_behind}
 use Rattle.spiller.specs.Walks.{Spreads, keeps, touches_at}
 use Rattle.spiller.proofs.Walking.{walked-none, walked-at, walked-all}

@@ -1,4 +1,4 @@
-use Rattle.std.proofs.Common.{◌≡◌, ◌∙◌, ◌++◌, ◌∷◌, [], ◌<◌, ◌≤◌, ap, sym, subst, take, length, arith}
+use Rattle.std.proofs.Common.{◌≡◌, ◌∙◌, ◌++◌, ◌∷◌, [], ◌<◌, ap, sym, subst, take, length, arith}
 use Rattle.std.proofs.lemmas.List.{take_more, take_all}
 use Rattle.spiller.proofs.FlowsGathered.{ListsSome, lists-none, lists-more}
 use Rattle.spiller.proofs.reaching.definition_of.Goals as goal

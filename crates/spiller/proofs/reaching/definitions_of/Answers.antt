@@ -1,4 +1,4 @@
-use Rattle.std.proofs.Common.{◌≡◌, ◌∙◌, [], map, ap, subst, sym, take, arith}
+use Rattle.std.proofs.Common.{◌∙◌, map, ap, subst, arith}
 use Rattle.std.proofs.lemmas.List.{take_all}
 use Rattle.meaning.specs.Live.{Among as Member}
 use Rattle.instr_effects.proofs.Members.{member-none}

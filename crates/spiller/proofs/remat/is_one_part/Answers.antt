@@ -1,4 +1,4 @@
-use Rattle.std.proofs.Common.{◌≡◌, ◌∙◌, ◌||◌, ap, sym, drop, arith, refl, ◌+◌}
+use Rattle.std.proofs.Common.{◌∙◌, ◌||◌, ap, sym, drop, arith, ◌+◌}
 use Rattle.spiller.specs.Readings.{reached_in}
 use Rattle.spiller.specs.Setting.{own_lanes}
 use Rattle.spiller.specs.Views.{spilling_of}

@@ -1,4 +1,4 @@
-use Rattle.std.proofs.Common.{◌≡◌, ◌∙◌, ap, sym, map, filter, cond, None, Some}
+use Rattle.std.proofs.Common.{◌∙◌, ap, sym, map, filter, cond, None, Some}
 use Rattle.spiller.specs.declared.reaching.Definition.{Definition}
 use Rattle.spiller.specs.Readings.{alone, reached_by}
 use Rattle.spiller.specs.Rematerialised.{repeatable_class, serves}
