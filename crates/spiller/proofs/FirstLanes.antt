@@ -17,7 +17,7 @@ numbers-length : (n k : ℕ) → length (numbers n k) ≡ k
 numbers-length n zero = refl
 numbers-length n (suc k) = ap suc (numbers-length (suc n) k)
 
-equals-swapped : (m n : ℕ) → (m == n) ≡ (n == m)
+pub equals-swapped : (m n : ℕ) → (m == n) ≡ (n == m)
 equals-swapped m n = go (m == n) (n == m) refl refl
   where
     go : (x y : Bool) → (m == n) ≡ x → (n == m) ≡ y → (m == n) ≡ (n == m)

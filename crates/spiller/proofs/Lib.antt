@@ -16,3 +16,16 @@ pub mod Untouched
 pub mod ReachesTold
 pub mod ReadingsFound
 pub mod ReadingSources
+pub mod Added
+pub mod OwnUses
+pub mod TiedUses
+pub mod Placed
+pub mod Walks
+pub mod Behind
+pub mod Changes
+pub mod Known
+pub mod PlacePlanned
+pub mod Steps
+pub mod Singles
+pub mod Terminators
+pub mod Moves

@@ -10,3 +10,8 @@ pub mod Views
 pub mod Walks
 pub mod Readings
 pub mod Planned
+pub mod Additions
+pub mod Seating
+pub mod Readings
+pub mod Moving
+pub mod Placing

@@ -1,5 +1,5 @@
 -- What is planned for a place, in the words of the definition: what becomes of it, as edits.
-use Rattle.std.specs.Prelude.{◌≡◌, ◌⊎◌, ℕ, Bool, true, false, cond, List, [], ◌∷◌, ◌++◌, ◌+◌, ◌||◌, map, length, Option, Some, None, option_map}
+use Rattle.std.specs.Prelude.{◌≡◌, ◌⊎◌, ℕ, Bool, true, false, cond, not, ◌&&◌, List, [], ◌∷◌, ◌++◌, ◌+◌, ◌||◌, map, length, Option, Some, None, option_map}
 use Rattle.std.specs.List.{list_any, zip}
 use Rattle.target_base.specs.declared.types.Effect.TheVariants as effects
 use Rattle.target_base.specs.declared.types.OpId.{OpId}
@@ -69,9 +69,13 @@ change_edits s before behind is x = put_all before x.before ++ (own_edits s is x
 abbrev pub names_own_slot : Spilling → Instr → Bool
 names_own_slot s i = list_any (is_slot s.slot) i.operands
 
--- a new instruction of a change, or one that is changed, does
-abbrev pub uses_own_slot : Spilling → Change → Bool
-uses_own_slot s x = list_any (names_own_slot s) (x.before ++ (x.own ++ x.behind))
+-- a changed instruction does, where none did before
+abbrev pub names_slot_anew : Spilling → List Instr → List Instr → Bool
+names_slot_anew s is xs = not (list_any (names_own_slot s) is) && list_any (names_own_slot s) xs
+
+-- a new instruction of a change does, or a changed one, where none of the place did before
+abbrev pub uses_own_slot : Spilling → List Instr → Change → Bool
+uses_own_slot s is x = list_any (names_own_slot s) x.before || (names_slot_anew s is x.own || list_any (names_own_slot s) x.behind)
 
 -- a plan with what becomes of a further place
 abbrev pub with_change : Spilling → Gap → Gap → List Instr → Change → Planned → Planned
@@ -79,7 +83,7 @@ with_change s before behind is x p = record {
   edits = p.edits ++ change_edits s before behind is x;
   tinies = p.tinies ++ zip (numbers p.next_range (length x.tinies)) (map (λ k. k.1) x.tinies);
   classes = p.classes ++ map (λ k. k.0) x.tinies;
-  uses_slot = p.uses_slot || uses_own_slot s x;
+  uses_slot = p.uses_slot || uses_own_slot s is x;
   next_range = p.next_range + length x.tinies;
   next_id = p.next_id + new_ids x;
 }

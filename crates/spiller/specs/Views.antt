@@ -1,17 +1,19 @@
 -- What the code looks at while it plans a spill, and the plan, as the definition's words name them.
-use Rattle.std.specs.Prelude.{ℕ, Bool, false, ◌&&◌, length, ◌+◌, ◌-◌, ◌^◌, List, [], ◌∷◌, ◌++◌, Option, Some, None, slice_get, slice_index, nat_eq, option_map, find, map, min}
+use Rattle.std.specs.Prelude.{◌≡◌, ℕ, Bool, false, ◌&&◌, length, List, [], Option, Some, None, slice_get, slice_index, nat_eq, option_map, find, map}
 use Rattle.target_base.specs.declared.types.ClassId.{ClassId}
-use Rattle.target_base.specs.declared.types.OpId.{OpId}
 use Rattle.mir_func.specs.Value.{Function}
 use Rattle.mir_func.specs.Binding.{same_index, operand_class}
 use Rattle.mir_func.specs.declared.func.RegOp.{RegOp}
 use Rattle.target_base.specs.declared.types.Role.{Role}
 use Rattle.spiller.specs.declared.seats.DefinedTiny.{DefinedTiny}
 use Rattle.mir_func.specs.declared.func.Gap.{Gap}
-use Rattle.mir_func.specs.declared.func.Operand.{Operand}
+use Rattle.mir_func.specs.declared.func.Instr.{Instr}
+use Rattle.mir_func.specs.declared.func.Block.{Block}
+use Rattle.instr_effects.specs.declared.owner.Owner.TheVariants as owners
+use Rattle.instr_effects.specs.Numbered.{number_in}
+use Rattle.live_lanes.specs.Looks.{exit_at}
 use Rattle.mir_meaning.specs.Places.{Variable, Using, variable, same_class, same_use}
 use Rattle.live_edits.specs.declared.edit.Edit.{Edit}
-use Rattle.live_edits.specs.declared.edit.Edit.TheVariants as edits
 use Rattle.spiller.specs.declared.plan.SpillView.{SpillView}
 use Rattle.spiller.specs.declared.plan.Plan.{Plan}
 use Rattle.spiller.specs.declared.roles.IndexedClass.{IndexedClass}
@@ -58,6 +60,19 @@ block_number view id = elim (slice_get view.live.now.func.blocks (slice_index vi
 abbrev pub gap_before : SpillView → ℕ → Gap
 gap_before view id = record { block = block_number view id; before = Some id }
 
+-- the gap in front of an instruction of the block, or at its end
+abbrev pub gap_behind : Block → Option Instr → Gap
+gap_behind b next = record { block = b.number; before = option_map (λ i. i.id) next }
+
+-- the instruction stands in the function
+abbrev pub IsThere : Function → Instr → Type 0
+IsThere f d = (p j : ℕ) × (b : Block) × (slice_get f.blocks p ≡ Some b) × (slice_get b.instrs j ≡ Some d)
+
+-- The range that is spilled, as the table tells which of its lanes are live. Which definitions reach readings is of no matter
+-- here.
+abbrev pub own_setting : SpillView → Spilling
+own_setting view = spilling_of view view.slot (record { live_behind = λ id k. exit_at view.live.now.table (number_in view.live.now.table.lanes (owners.Range view.v k)) id; reaches = λ d k i. false })
+
 -- what a reading asks
 abbrev pub wish_of : RematConstraint → Wish
 wish_of constraints.Never = Never
@@ -87,19 +102,3 @@ planned p = record {
 -- nothing is planned for the function
 abbrev pub no_plan : Function → Planned
 no_plan f = record { edits = []; tinies = []; classes = []; uses_slot = false; next_range = length f.classes; next_id = f.next_id }
-
--- the number after this one, as far as numbers go
-abbrev pub number_after : ℕ → ℕ
-number_after n = min (n + 1) (2 ^ 32 - 1)
-
--- a further edit
-abbrev pub with_edit : Edit → Planned → Planned
-with_edit e p = record p { edits = p.edits ++ e ∷ [] }
-
--- a further instruction that is put
-abbrev pub with_put : Gap → OpId → List Operand → Planned → Planned
-with_put gap op os p = record (with_edit (edits.Put gap op os) p) { next_id = number_after p.next_id }
-
--- a further tiny
-abbrev pub with_tiny : Option ClassId → ℕ → Planned → Planned
-with_tiny k at p = record p { tinies = p.tinies ++ (p.next_range, at) ∷ []; classes = p.classes ++ k ∷ []; next_range = number_after p.next_range }

@@ -1,26 +1,35 @@
 //! The edits that spill a range, gathered before any of them is done.
 
-ghost use Rattle.std.specs.Prelude.{◌≡◌, IfOk, OnOk, true, [], ◌∷◌, ◌++◌, ◌<◌, ◌^◌, drop, length, option_and_then};
-ghost use Rattle.target_base.specs.declared.types.OpId.{OpId};
-ghost use Rattle.mir_func.specs.declared.func.Op.TheVariants as ops;
+ghost use Rattle.std.specs.Prelude.{◌≡◌, ℕ, IfOk, OnOk, Some, [], ◌∷◌, ◌++◌, ◌<◌, ◌+◌, ◌^◌, drop, length, option_map, slice_get};
+ghost use Rattle.std.specs.List.{list_any};
+ghost use Rattle.mir_func.specs.declared.func.Gap.{Gap};
+ghost use Rattle.mir_func.specs.declared.func.Block.{Block};
+ghost use Rattle.mir_func.specs.declared.func.Instr.{Instr};
 ghost use Rattle.mir_func.specs.declared.func.Operand.TheVariants as operands;
 ghost use Rattle.mir_func.specs.Binding.{class_of};
+ghost use Rattle.mir_func.specs.Edits.{made};
 ghost use Rattle.mir_meaning.specs.Points.{is_range};
-ghost use Rattle.mir_meaning.specs.Registers.{range_widths};
+ghost use Rattle.mir_meaning.specs.Registers.{numbers, range_widths};
+ghost use Rattle.live_lanes.specs.Looks.{InOrder};
+ghost use Rattle.live_lanes.specs.Touching.{FindsInstrs};
 ghost use Rattle.live_edits.specs.declared.edit.Edit.TheVariants as edits;
-ghost use Rattle.spiller.specs.Views.{block_number, gap_before, planned, no_plan, with_put, with_edit, with_tiny};
-ghost use Rattle.spiller.specs.Setting.{plain_use, plain_definition, undef_use, lanes_named, opcode};
-ghost use Rattle.target_base.specs.Registers.{reload_place};
+ghost use Rattle.spiller.specs.Views.{block_number, gap_before, planned, no_plan, own_setting, IsThere};
+ghost use Rattle.spiller.specs.Planned.{known_op};
+ghost use Rattle.spiller.specs.Seating.{IsBehind};
+ghost use Rattle.spiller.specs.Rematerialised.{repeated};
+ghost use Rattle.spiller.specs.Spilled.{is_slot};
+ghost use Rattle.spiller.specs.Additions.{with_addition, edited, slot_named, ranges_made, put_into};
+ghost use Rattle.spiller.specs.Setting.{plain_use, plain_definition, undef_use, lanes_named, in_own_slot, own_lanes, store, reload};
 
-use crate::kinds::{first_unreserved, reload_op};
+use crate::kinds::{first_unreserved, reload_op, spill_op};
 use interference::{Tinies, Tiny};
 use live_edits::Edit;
 use live_lanes::LiveFunc;
 use mir_func::operands::class_of;
-use mir_func::{Gap, Instr, Loc, Op, Operand, Operands, RegOp};
+use mir_func::{Func, Gap, Instr, Loc, Op, Operand, Operands, RegOp};
 use phi_elim::moves::{whole_definition, whole_use};
 use std::alloc::{AllocError, Global};
-use target_base::{ClassId, Copied, IndexId, OpId, Target};
+use target_base::{Boxed, ClassId, Copied, IndexId, OpId, Target};
 
 /// What spilling looks at: the function as it stands before.
 #[derive(Clone, Copy)]
@@ -30,6 +39,8 @@ pub(crate) struct SpillView<'a> {
     pub live: &'a LiveFunc,
     /// The range that is spilled.
     pub v: u32,
+    /// Its slot.
+    pub slot: u32,
 }
 
 /// Edits in order, and the new ranges that they name.
@@ -40,19 +51,16 @@ pub(crate) struct Plan {
     pub tinies: Tinies,
     /// The classes of the tinies.
     pub classes: Vec<Option<ClassId>>,
-    /// The slot of the range.
-    pub slot: u32,
-    /// Whether a store or a reload names it.
+    /// Whether a store or a reload names the slot of the range.
     pub uses_slot: bool,
     next_range: u32,
     next_id: u32,
 }
 
 impl Plan {
-    /// No edits of a function, with the slot of the range and with room for so many edits.
-    pub fn new(view: SpillView<'_>, slot: u32, room: usize) -> Result<Plan, AllocError>
-        ensures slot { IfOk result (λ p. p.slot ≡ slot) }
-        ensures plan { length view.entry.live.now.func.classes < 2 ^ 32 → IfOk result (λ p. planned p ≡ no_plan view.entry.live.now.func) }
+    /// No edits of a function, with room for so many edits.
+    pub fn new(view: SpillView<'_>, room: usize) -> Result<Plan, AllocError>
+        ensures { length view.entry.live.now.func.classes < 2 ^ 32 → IfOk result (λ p. planned p ≡ no_plan view.entry.live.now.func) }
     {
         let f = view.live.func();
         Ok(Plan {
@@ -60,7 +68,6 @@ impl Plan {
             edits: Vec::with_capacity(view.alloc, room)?,
             tinies: Tinies::new(view.alloc),
             classes: Vec::new(view.alloc),
-            slot,
             uses_slot: false,
             next_range: u32::try_from(f.classes.len()).unwrap_or(u32::MAX),
             next_id: f.next_id,
@@ -74,60 +81,85 @@ impl Plan {
         self.next_id
     }
 
-    /// Notes that an instruction is put into a gap.
-    pub fn put(&mut self, gap: Gap, op: OpId, operands: Operands) -> Result<(), AllocError>
-        ensures { OnOk result (planned self.new ≡ with_put gap op operands (planned self.old)) }
+    /// Notes that an instruction is put into a gap. An id that doesn't fit 32 bits is refused as want of
+    /// memory is.
+    pub fn put(
+        &mut self,
+        view: SpillView<'_>,
+        gap: Gap,
+        op: OpId,
+        operands: Operands,
+    ) -> Result<(), AllocError>
+        ensures { OnOk result (planned self.new ≡ with_addition (put_into (own_setting view.entry) gap (made 0 op operands ∷ [])) (planned self.old)) }
     {
+        if self.next_id == u32::MAX {
+            return Err(AllocError);
+        }
+        self.uses_slot = self.uses_slot || names_slot(view.slot, operands.as_slice());
         self.edits.push(Edit::Put(gap, op, operands))?;
-        self.next_id = self.next_id.saturating_add(1);
+        self.next_id += 1;
         Ok(())
     }
 
-    /// Lanes of the slot of the range, for a store or a reload.
-    pub fn own_part(&mut self, index: Option<IndexId>) -> SlotPart
-        ensures part { result ≡ record { slot = self.old.slot; index = index } }
-        ensures plan { planned self.new ≡ record (planned self.old) { uses_slot = true } }
+    /// Notes that an instruction names the slot of the range.
+    pub fn note_slot(&mut self)
+        ensures { planned self.new ≡ with_addition slot_named (planned self.old) }
     {
         self.uses_slot = true;
-        SlotPart {
-            slot: self.slot,
-            index,
-        }
     }
 
-    /// Notes that a register of a class is reloaded before an instruction.
+    /// Notes that a register of a class is reloaded in a gap from lanes of the slot of the range.
     pub fn put_reload(
         &mut self,
         view: SpillView<'_>,
-        at: u32,
+        gap: Gap,
         class: Option<ClassId>,
         register: RegOp,
-        from: SlotPart,
+        index: Option<IndexId>,
     ) -> Result<(), AllocError>
-        ensures { OnOk result (planned self.new ≡ with_put (gap_before view.entry at) (opcode (option_and_then (reload_place view.entry.target.now) class)) (operands.Reg register ∷ operands.Stack from.slot ∷ lanes_named from.index ∷ []) (planned self.old)) }
+        ensures { OnOk result (planned self.new ≡ with_addition (put_into (own_setting view.entry) gap (reload view.entry.target.now class register (in_own_slot (own_setting view.entry) index) ∷ [])) (planned self.old)) }
     {
-        let operands = slot_operands(view.alloc, register, from)?;
-        self.put(view.gap_before(at), reload_op(view.target, class), operands)
+        let operands = slot_operands(view.alloc, register, view.own_part(index))?;
+        self.put(view, gap, reload_op(view.target, class), operands)
     }
 
-    /// Notes that the instruction of a definition is repeated before another, for this register.
+    /// Notes that a register of a class is stored in a gap to lanes of the slot of the range.
+    pub fn put_store(
+        &mut self,
+        view: SpillView<'_>,
+        gap: Gap,
+        class: Option<ClassId>,
+        register: RegOp,
+        index: Option<IndexId>,
+    ) -> Result<(), AllocError>
+        ensures { OnOk result (planned self.new ≡ with_addition (put_into (own_setting view.entry) gap (store view.entry.target.now class register (in_own_slot (own_setting view.entry) index) ∷ [])) (planned self.old)) }
+    {
+        let operands = slot_operands(view.alloc, register, view.own_part(index))?;
+        self.put(view, gap, spill_op(view.target, class), operands)
+    }
+
+    /// Notes that the instruction of a definition is repeated in a gap, for this register.
     pub fn put_repeated(
         &mut self,
         view: SpillView<'_>,
         source: u32,
-        at: u32,
+        gap: Gap,
         register: RegOp,
-    ) -> Result<(), AllocError> {
+    ) -> Result<(), AllocError>
+        ensures range { OnOk result (self.new.next_range ≡ self.old.next_range) }
+        ensures plan { FindsInstrs view.entry.live.now.table view.entry.live.now.func.blocks → (d : Instr) → IsThere view.entry.live.now.func d → d.id ≡ source
+            → OnOk result (planned self.new ≡ with_addition (put_into (own_setting view.entry) gap (repeated d register ∷ [])) (planned self.old)) }
+    {
         let Some(instr) = view.live.instr(source) else {
             return Ok(());
         };
         let operands = rematerialised_operands(view.alloc, instr, register)?;
-        self.put(view.gap_before(at), op_of(instr), operands)
+        self.put(view, gap, op_of(instr), operands)
     }
 
     /// Notes that an instruction becomes another one in its place.
     pub fn replace(&mut self, id: u32, op: OpId, operands: Operands) -> Result<(), AllocError>
-        ensures { OnOk result (planned self.new ≡ with_edit (edits.Replace id op operands) (planned self.old)) }
+        ensures { OnOk result (planned self.new ≡ with_addition (edited (edits.Replace id op operands ∷ [])) (planned self.old)) }
     {
         self.edits.push(Edit::Replace(id, op, operands))?;
         Ok(())
@@ -135,21 +167,25 @@ impl Plan {
 
     /// Notes that an instruction goes.
     pub fn erase(&mut self, id: u32) -> Result<(), AllocError>
-        ensures { OnOk result (planned self.new ≡ with_edit (edits.Erase id) (planned self.old)) }
+        ensures { OnOk result (planned self.new ≡ with_addition (edited (edits.Erase id ∷ [])) (planned self.old)) }
     {
         self.edits.push(Edit::Erase(id))?;
         Ok(())
     }
 
-    /// Notes a new range of a class for a place, and answers its number.
+    /// Notes a new range of a class for a place, and answers its number. One that doesn't fit 32 bits is
+    /// refused as want of memory is.
     pub fn tiny(&mut self, class: Option<ClassId>, at: u32) -> Result<u32, AllocError>
         ensures range { IfOk result (λ v. v ≡ self.old.next_range) }
-        ensures plan { OnOk result (planned self.new ≡ with_tiny class at (planned self.old)) }
+        ensures plan { OnOk result (planned self.new ≡ with_addition (ranges_made ((class, at) ∷ [])) (planned self.old)) }
     {
         let range = self.next_range;
+        if range == u32::MAX {
+            return Err(AllocError);
+        }
         self.classes.push(class)?;
         self.tinies.push(Tiny { range, at })?;
-        self.next_range = range.saturating_add(1);
+        self.next_range = range + 1;
         Ok(range)
     }
 
@@ -159,9 +195,26 @@ impl Plan {
     }
 }
 
+/// Whether the operand is the slot.
+fn is_slot(slot: u32, operand: &Operand) -> bool
+    ensures { result ≡ is_slot slot operand.now }
+{
+    match operand {
+        Operand::Stack(other) => *other == slot,
+        _ => false,
+    }
+}
+
+/// Whether one of the operands is the slot.
+fn names_slot(slot: u32, operands: &[Operand]) -> bool
+    ensures { result ≡ list_any (is_slot slot) operands.now }
+{
+    operands.iter().any(|operand| is_slot(slot, operand))
+}
+
 /// An opcode of the target; opcode 0 for an excluded one.
 pub(crate) fn op_of(instr: &Instr) -> OpId
-    ensures { (op : OpId) → instr.now.op ≡ ops.Known op → result ≡ op }
+    ensures { result ≡ known_op instr.now.op }
 {
     match &instr.op {
         Op::Known(op) => *op,
@@ -262,6 +315,29 @@ fn push_all(alloc: Global, operands: &mut Operands, others: &[Operand]) -> Resul
     Ok(())
 }
 
+/// The id of the instruction behind that at a place, if there is one.
+fn id_behind(instrs: &[Boxed<Instr>], place: usize) -> Option<u32>
+    ensures { result ≡ option_map (λ i. i.id) (slice_get instrs.now (place + 1)) }
+{
+    if place >= instrs.len() {
+        return None;
+    }
+    match instrs.get(place + 1) {
+        Some(next) => Some(next.get().id),
+        None => None,
+    }
+}
+
+/// The id of the instruction behind that at a place of the block at a position, if there is one.
+fn id_behind_at(f: &Func, position: usize, place: usize) -> Option<u32>
+    ensures { (b : Block) → slice_get f.now.blocks position ≡ Some b → result ≡ option_map (λ i. i.id) (slice_get b.instrs (place + 1)) }
+{
+    match f.blocks.as_slice().get(position) {
+        Some(block) => id_behind(block.instrs.as_slice(), place),
+        None => None,
+    }
+}
+
 impl<'a> SpillView<'a> {
     /// The number of the block of an instruction.
     pub fn block_number(&self, id: u32) -> u32
@@ -284,16 +360,25 @@ impl<'a> SpillView<'a> {
         }
     }
 
+    /// Lanes of the slot of the range, for a store or a reload.
+    pub fn own_part(&self, index: Option<IndexId>) -> SlotPart
+        ensures { result ≡ record { slot = self.now.slot; index = index } }
+    {
+        SlotPart {
+            slot: self.slot,
+            index,
+        }
+    }
+
     /// The gap right behind an instruction.
-    pub fn gap_behind(&self, id: u32) -> Gap {
+    pub fn gap_behind(&self, id: u32) -> Gap
+        ensures { (gap : Gap) → IsBehind self.now id gap → result ≡ gap }
+    {
         let position = self.live.position_of(id) as usize;
-        let place = self.live.place_of(id).saturating_add(1);
+        let place = self.live.place_of(id);
         Gap {
             block: self.block_number(id),
-            before: match self.live.func().instr_at(position, place) {
-                Some(next) => Some(next.id),
-                None => None,
-            },
+            before: id_behind_at(self.live.func(), position, place),
         }
     }
 
@@ -321,17 +406,45 @@ impl<'a> SpillView<'a> {
         }
     }
 
+    /// Whether a lane of the range is live at the exit of an instruction.
+    fn is_lane_behind(&self, lane: usize, id: u32) -> bool
+        ensures { InOrder self.now.live.now.table → result ≡ (own_setting self.now).facts.live_behind id lane }
+    {
+        self.live.live_out(self.v, lane, id)
+    }
+
+    /// Whether one of these lanes of the range is live at the exit of an instruction.
+    fn is_one_behind(&self, lanes: &[u8], id: u32) -> bool
+        ensures { InOrder self.now.live.now.table → result ≡ list_any ((own_setting self.now).facts.live_behind id) lanes.now }
+    {
+        'lanes: for k in lanes {
+            if self.is_lane_behind(*k as usize, id) {
+                return true;
+            }
+        }
+        false
+    }
+
+    /// Whether one of so many lanes of the range, from the first one on, is live at the exit of an
+    /// instruction.
+    fn is_some_behind(&self, count: usize, id: u32) -> bool
+        ensures { InOrder self.now.live.now.table → result ≡ list_any ((own_setting self.now).facts.live_behind id) (numbers 0 count) }
+    {
+        'lanes: for k in 0..count {
+            if self.is_lane_behind(k, id) {
+                return true;
+            }
+        }
+        false
+    }
+
     /// Whether some lane of the range that an operand names is live at the exit of an instruction.
-    pub fn is_live_behind(&self, index: Option<IndexId>, id: u32) -> bool {
+    pub fn is_live_behind(&self, index: Option<IndexId>, id: u32) -> bool
+        ensures { InOrder self.now.live.now.table → result ≡ list_any ((own_setting self.now).facts.live_behind id) (own_lanes (own_setting self.now) index) }
+    {
         match index {
-            None => (0..self.live.lane_count(self.v)).any(|k| self
-                .live
-                .live_out(self.v, k as usize, id)),
-            Some(index) => self
-                .target
-                .lanes_at(index)
-                .iter()
-                .any(|k| self.live.live_out(self.v, *k as usize, id)),
+            None => self.is_some_behind(self.lane_count(), id),
+            Some(index) => self.is_one_behind(self.target.lanes_at(index), id),
         }
     }
 }

@@ -72,10 +72,11 @@ fn plan_spill(
         target: live.target(),
         live,
         v,
+        slot,
     };
     let remat = plan_remat(view, touched)?;
     // (a place is changed in three steps at most: a reload, the instruction, a store)
-    let mut plan = Plan::new(view, slot, touched.len().saturating_mul(3))?;
+    let mut plan = Plan::new(view, touched.len().saturating_mul(3))?;
     let mut last = None;
     'touched: for id in touched {
         last = change_touched(view, *id, last, &remat, &mut plan)?;
