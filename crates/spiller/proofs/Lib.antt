@@ -29,3 +29,10 @@ pub mod Steps
 pub mod Singles
 pub mod Terminators
 pub mod Moves
+pub mod ListSteps
+pub mod ReadingPlaces
+pub mod ReadingsListed
+pub mod KeyedPlaces
+pub mod RematTold
+pub mod RematTells
+pub mod NothingRepeated

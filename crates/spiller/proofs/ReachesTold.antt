@@ -206,7 +206,7 @@ module _ (t : Target) (f : Function) (x : Table) (v : ℕ) (may : MaySpill t f x
       let c = stands-there x.order.slots b.instrs q j rising g in
       cc
 
-  one-instr : (i j : Instr) → Site i → Site j → i.id ≡ j.id → i ≡ j
+  pub one-instr : (i j : Instr) → Site i → Site j → i.id ≡ j.id → i ≡ j
   one-instr i j a c same =
       let y : a.position ≡ c.position = sym (home i a) ∙ (ap (slice_index x.order.block_of.items) same ∙ home j c) in
       let b : a.block ≡ c.block = some-same a.block c.block (sym a.stands ∙ (ap (slice_get f.blocks) y ∙ c.stands)) in
@@ -215,7 +215,7 @@ module _ (t : Target) (f : Function) (x : Table) (v : ℕ) (may : MaySpill t f x
       some-same i j (sym there ∙ (ap (slice_get c.block.instrs) p ∙ c.there))
 
   -- the instruction of a touched id
-  site-of : (id : ℕ) → names_range x v id ≡ true → (i : Instr) × Site i × (i.id ≡ id) × (touches v i ≡ true)
+  pub site-of : (id : ℕ) → names_range x v id ≡ true → (i : Instr) × Site i × (i.id ≡ id) × (touches v i ≡ true)
   site-of id e =
       let m = subst (Member id) ids-are (has-member id ids (are.named id ∙ e)) in
       let z = map-of (λ (i : Instr). i.id) id (filter (touches v) (flat_map (λ (b : Block). b.instrs) f.blocks)) m in
@@ -452,6 +452,19 @@ module _ (t : Target) (f : Function) (x : Table) (v : ℕ) (may : MaySpill t f x
               go true e = e
               go false e = absurd (let z = (quiet j a e).1 in cc)
 
+  -- what reaches a reading of a lane is an instruction that touches the range
+  pub reached-lane : (d k i : ℕ) → Reaches t f v d k i → (k < lanes_count (slice_get x.lanes.ranges.items v)) × (names_range x v d ≡ true)
+  reached-lane d k i h =
+      let a = at-id t f f.blocks d (λ e. first-none _ _ e h.0) in
+      let r = part-of k a.position a.block a.instr a.stands (slice-member a.block.instrs a.place a.instr a.there) in
+      let brings = subst (AtFirst (λ u w. Brings (points_of t f) (VirtualLane v k) u w (from_instr t f i f.blocks))) (instr-code k a.position a.block a.instr r.0 r.1)
+      (subst (λ n. AtFirst (λ u w. Brings (points_of t f) (VirtualLane v k) u w (from_instr t f i f.blocks)) (from_instr t f n f.blocks)) (sym a.named) h.0) in
+      let w = (writes-item k a.position a.block a.instr r.0 r.1).1 brings.0 in
+      written-lane x v k d (subst (λ n. (touch_of x v k n).writes ≡ true) a.named w)
+    where
+      first-none : (P : Item → Code → Type 0) (q : Code) → q ≡ [] → AtFirst P q → ⊥
+      first-none P q e u = subst (AtFirst P) e u
+
   -- what is listed at all of them
 
   module _ (flows : List LaneFlow) (all : HasFlows x f.blocks v ids (lanes_count (slice_get x.lanes.ranges.items v)) flows) (ds : List Definition) (named : map (λ d. d.id) ds ≡ ids) (each : (d : Definition) → Member d ds → ListsFlows x v flows d) where
@@ -464,24 +477,12 @@ module _ (t : Target) (f : Function) (x : Table) (v : ℕ) (may : MaySpill t f x
 
     told-back : (d k i : ℕ) → Reaches t f v d k i → told_by ds (d, k, i) ≡ true
     told-back d k i h =
-        let below = known-lane d k i h in
+        let below = reached-lane d k i h in
         let y = all.all k below.0 in
         let z = map-of (λ (a : Definition). a.id) d ds (subst (Member d) (sym named) (has-member d ids (are.named d ∙ below.1))) in
         let to = reaches-flow k y.0 (all.each y.0 y.1) y.2 d i h in
         any-in (λ (a : Definition). nat_eq a.id d && lists a.reached.items k i) z.0 ds z.1
         (both-of _ _ (same-test z.0.id d (sym z.2)) ((each z.0 z.1 k i).1 (y.0, y.1, y.2, subst (λ n. FlowsTo x v y.0 n i) z.2 to)))
-      where
-        known-lane : (d k i : ℕ) → Reaches t f v d k i → (k < lanes_count (slice_get x.lanes.ranges.items v)) × (names_range x v d ≡ true)
-        known-lane d k i h =
-            let a = at-id t f f.blocks d (λ e. first-none _ _ e h.0) in
-            let r = part-of k a.position a.block a.instr a.stands (slice-member a.block.instrs a.place a.instr a.there) in
-            let brings = subst (AtFirst (λ u w. Brings (points_of t f) (VirtualLane v k) u w (from_instr t f i f.blocks))) (instr-code k a.position a.block a.instr r.0 r.1)
-            (subst (λ n. AtFirst (λ u w. Brings (points_of t f) (VirtualLane v k) u w (from_instr t f i f.blocks)) (from_instr t f n f.blocks)) (sym a.named) h.0) in
-            let w = (writes-item k a.position a.block a.instr r.0 r.1).1 brings.0 in
-            written-lane x v k d (subst (λ n. (touch_of x v k n).writes ≡ true) a.named w)
-          where
-            first-none : (P : Item → Code → Type 0) (q : Code) → q ≡ [] → AtFirst P q → ⊥
-            first-none P q e u = subst (AtFirst P) e u
 
     pub all-told : Tests (λ (p : ℕ × ℕ × ℕ). Reaches t f v p.0 p.1 p.2) (told_by ds)
     all-told p = (told-forth p.0 p.1 p.2, told-back p.0 p.1 p.2)

@@ -115,26 +115,26 @@ module _ (t : Target) (f : Function) (x : Table) (v : ℕ) (may : MaySpill t f x
   abbrev all : List Instr
   all = flat_map (λ b. b.instrs) f.blocks
 
-  apart : Apart (map (λ d. d.id) ds)
+  pub apart : Apart (map (λ d. d.id) ds)
   apart = subst Apart (sym are.named) (rise-apart (layout_key x.order.slots) ids (rise-of (layout_key x.order.slots) ids are.touched.order))
 
   -- by the id of a definition
-  abbrev test : List ℕ → List ℕ → ℕ → Bool
+  abbrev pub test : List ℕ → List ℕ → ℕ → Bool
   test by lanes n = list_any (λ i. list_any (λ k. told_by ds (n, k, i)) lanes) by
 
-  test-instr : (r : Reading) (by : List ℕ) → ((i : ℕ) → has i by ≡ has i (map (λ d. d.id) r.by)) → (d : Instr) → reaches s d r ≡ test by r.lanes d.id
+  pub test-instr : (r : Reading) (by : List ℕ) → ((i : ℕ) → has i by ≡ has i (map (λ d. d.id) r.by)) → (d : Instr) → reaches s d r ≡ test by r.lanes d.id
   test-instr r by same d =
       any-same (λ (i : Instr). list_any (λ k. facts.reaches d.id k i.id) r.lanes) (λ i. list_any (λ k. told_by ds (d.id, k, i.id)) r.lanes) r.by
       (λ i. any-same (λ k. facts.reaches d.id k i.id) (λ k. told_by ds (d.id, k, i.id)) r.lanes (λ k. decided (facts.reaches d.id k i.id) (told_by ds (d.id, k, i.id)) (tell.reach (d.id, k, i.id)) (are.told (d.id, k, i.id))))
       ∙ (sym (any-map (λ i. list_any (λ k. told_by ds (d.id, k, i)) r.lanes) (λ (i : Instr). i.id) r.by)
       ∙ sym (any-members (λ i. list_any (λ k. told_by ds (d.id, k, i)) r.lanes) by (map (λ (d : Instr). d.id) r.by) same))
 
-  test-listed : (by lanes : List ℕ) (d : Definition) → Member d ds → test by lanes d.id ≡ reached_by by lanes d
+  pub test-listed : (by lanes : List ℕ) (d : Definition) → Member d ds → test by lanes d.id ≡ reached_by by lanes d
   test-listed by lanes d m =
       any-same (λ i. list_any (λ k. told_by ds (d.id, k, i)) lanes) (λ i. list_any (λ k. lists d.reached.items k i) lanes) by
       (λ i. any-same (λ k. told_by ds (d.id, k, i)) (λ k. lists d.reached.items k i) lanes (λ k. one-told (λ (e : Definition). lists e.reached.items k i) ds d apart m))
 
-  test-untouched : (by lanes : List ℕ) (i : Instr) → Member i all → touches v i ≡ false → test by lanes i.id ≡ false
+  pub test-untouched : (by lanes : List ℕ) (i : Instr) → Member i all → touches v i ≡ false → test by lanes i.id ≡ false
   test-untouched by lanes i m e = same-truth _ _ (λ h. absurd (none h)) (λ h. absurd (cc))
     where
       out : has i.id ids ≡ false

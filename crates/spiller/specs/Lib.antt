@@ -12,6 +12,6 @@ pub mod Readings
 pub mod Planned
 pub mod Additions
 pub mod Seating
-pub mod Readings
 pub mod Moving
 pub mod Placing
+pub mod Listed

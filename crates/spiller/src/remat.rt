@@ -1,30 +1,37 @@
 //! Which readings of a range are rematerialised: the instruction that defines it is repeated in
 //! place of a reload.
 
-ghost use Rattle.std.specs.Prelude.{◌≡◌, ◌&&◌, ℕ, List, Some, find, map, filter, option_map, slice_get};
-ghost use Rattle.std.specs.List.{list_any};
+ghost use Rattle.std.specs.Prelude.{◌≡◌, ◌&&◌, ◌++◌, ◌∷◌, [], ℕ, Bool, List, Some, None, false, true, drop, position, find, cond, map, filter, flat_map, is_some, option_map, option_and_then, slice_get, IfOk, OnOk};
+ghost use Rattle.std.specs.List.{list_any, cons_option, position_or_len, AllByRecursion};
 ghost use Rattle.mir_func.specs.declared.func.Block.{Block};
 ghost use Rattle.mir_func.specs.declared.func.Instr.{Instr};
-ghost use Rattle.live_lanes.specs.Touching.{FindsInstrs};
+ghost use Rattle.live_lanes.specs.Touching.{AreTouched, FindsInstrs};
 ghost use Rattle.spiller.specs.MaySpill.{MaySpill};
 ghost use Rattle.target_base.specs.Storage.{is_within};
-ghost use Rattle.mir_func.specs.Binding.{does, operand_class};
+ghost use Rattle.target_base.specs.declared.types.Effect.TheVariants as effects;
+ghost use Rattle.mir_func.specs.Binding.{does, effect_of, is_terminator, register_at, tied_number};
 ghost use Rattle.mir_meaning.specs.Paths.{has};
-ghost use Rattle.spiller.specs.Planned.{copy_key, way_key};
+ghost use Rattle.mir_meaning.specs.Places.{same_use};
+ghost use Rattle.spiller.specs.Additions.{own_use, own_uses};
+ghost use Rattle.spiller.specs.Listed.{IsToldBy, Lists, ListsOne, TestsNeedless, TestsOne, ends_by, keyed_by, keyed_copy, keyed_effect, keyed_move, keyed_operands, keyed_readings, keyed_tied_uses, keyed_uses, keyed_way, place_at, readers, tied_own, told_sources};
+ghost use Rattle.spiller.specs.Placing.{IsPlainForm};
+ghost use Rattle.spiller.specs.Planned.{TellsRemat, copy_key, way_key};
 ghost use Rattle.spiller.specs.Reaching.{Facts, AreFacts};
 ghost use Rattle.spiller.specs.Readings.{same_ways, same_key, source_in, goes_in, reached_in, reached_by, reaches_use, needs_value, is_only_repeated, alone, IsReading, AreDefinitions};
 ghost use Rattle.spiller.specs.Rematerialised.{is_constant, definition_class, whole_class, repeatable_class, serves, if_whole, copy_wish, Within, Reading, repeated_for};
-ghost use Rattle.spiller.specs.Setting.{own_lanes};
-ghost use Rattle.spiller.specs.Views.{spilling_of, wish_of, way_of, named_by};
+ghost use Rattle.spiller.specs.Setting.{is_own, own_lanes};
+ghost use Rattle.spiller.specs.Views.{spilling_of, wish_of, way_of};
 
 use crate::plan::SpillView;
 use crate::reaching::{Definition, LaneReading, definitions_of};
-use crate::roles::{IndexedClass, naming_of, operand_of_range, same_naming};
-use mir_func::opcodes::{effect_of, is_terminator, is_tied, next_role, roles_of};
+use crate::roles::{IndexedClass, operand_of_range, same_naming};
+use crate::seats::{add_all_ways, add_ways, place_name, way_of_operand};
+use mir_func::opcodes::{effect_of, is_terminator, next_role, roles_of, tied_number};
 use mir_func::operands::register_at;
 use mir_func::{Instr, Loc, Operand, RegOp};
 use std::alloc::{AllocError, Global};
-use target_base::classes::{are_within, class_of, holds};
+use target_base::classes::{are_within, class_of, holds, is_spill};
+use target_base::roles::is_copy;
 use target_base::{Boxed, ClassId, Effect, IndexId, Reg, Role, Target};
 
 /// What a reading asks of the instruction that is repeated for it.
@@ -149,103 +156,314 @@ fn is_repeatable(target: &Target, instr: &Instr) -> bool
 }
 
 /// Plans what is rematerialised of the range.
-pub(crate) fn plan_remat(view: SpillView<'_>, touched: &[u32]) -> Result<Remat, AllocError> {
-    let mut remat = Remat {
+pub(crate) fn plan_remat(view: SpillView<'_>, touched: &[u32]) -> Result<Remat, AllocError>
+    ensures { IfOk result (λ r. (slot : ℕ) (facts : Facts) → MaySpill view.entry.target.now view.entry.live.now.func view.entry.live.now.table view.entry.v → AreTouched view.entry.live.now.table view.entry.v touched.now → AreFacts view.entry.target.now view.entry.live.now.func view.entry.v facts
+        → TellsRemat (spilling_of view.entry slot facts) (source_in r) (goes_in r)) }
+{
+    if !has_repeatable(view, touched) {
+        return Ok(no_remat(view));
+    }
+    plan_repeated(view, touched)
+}
+
+/// Nothing is rematerialised.
+fn no_remat(view: SpillView<'_>) -> Remat
+    ensures sources { result.sources.items ≡ [] }
+    ensures deleted { result.deleted.items ≡ [] }
+{
+    Remat {
         sources: Vec::new(view.alloc),
         deleted: Vec::new(view.alloc),
-    };
-    if !has_repeatable(view, touched) {
-        return Ok(remat);
     }
+}
+
+/// The same where some instruction that touches the range can be repeated.
+fn plan_repeated(view: SpillView<'_>, touched: &[u32]) -> Result<Remat, AllocError>
+    ensures { IfOk result (λ r. (slot : ℕ) (facts : Facts) → MaySpill view.entry.target.now view.entry.live.now.func view.entry.live.now.table view.entry.v → AreTouched view.entry.live.now.table view.entry.v touched.now → AreFacts view.entry.target.now view.entry.live.now.func view.entry.v facts
+        → TellsRemat (spilling_of view.entry slot facts) (source_in r) (goes_in r)) }
+{
     let definitions = definitions_of(view, touched)?;
-    let mut readings = readings_of(view, touched)?;
-    judge(view, definitions.as_slice(), &mut readings);
-    list_sources(readings.as_slice(), &mut remat.sources)?;
-    list_deleted(
-        view,
-        definitions.as_slice(),
-        readings.as_slice(),
-        &mut remat.deleted,
-    )?;
-    Ok(remat)
+    remat_for(view, touched, definitions.as_slice())
 }
 
-fn has_repeatable(view: SpillView<'_>, touched: &[u32]) -> bool {
-    touched.iter().any(|id| is_repeatable_id(view, *id))
+/// What is rematerialised, by the readings that definitions reach.
+fn remat_for(
+    view: SpillView<'_>,
+    touched: &[u32],
+    definitions: &[Definition],
+) -> Result<Remat, AllocError>
+    ensures { IfOk result (λ r. map (λ d. d.id) definitions.now ≡ touched.now → IsToldBy view.entry touched.now definitions.now → (slot : ℕ) (facts : Facts) → MaySpill view.entry.target.now view.entry.live.now.func view.entry.live.now.table view.entry.v → AreTouched view.entry.live.now.table view.entry.v touched.now
+        → AreFacts view.entry.target.now view.entry.live.now.func view.entry.v facts → TellsRemat (spilling_of view.entry slot facts) (source_in r) (goes_in r)) }
+{
+    let readings = readings_of(view, definitions, touched)?;
+    remat_of(view, definitions, readings.as_slice())
 }
 
-/// The readings of the range.
-fn readings_of(view: SpillView<'_>, touched: &[u32]) -> Result<Vec<RematUse>, AllocError> {
-    let mut readings = Vec::new(view.alloc);
-    let mut place = RematPlace { at: None, first: 0 };
+/// What is rematerialised, by readings with their sources.
+fn remat_of(
+    view: SpillView<'_>,
+    definitions: &[Definition],
+    readings: &[RematUse],
+) -> Result<Remat, AllocError>
+    ensures sources { IfOk result (λ r. r.sources.items ≡ flat_map told_sources readings.now) }
+    ensures deleted { IfOk result (λ r. (slot : ℕ) (facts : Facts) (test : ℕ → Bool) → FindsInstrs view.entry.live.now.table view.entry.live.now.func.blocks → TestsNeedless (spilling_of view.entry slot facts) definitions.now readings.now test → r.deleted.items ≡ filter test (map (λ d. d.id) definitions.now)) }
+{
+    Ok(Remat {
+        sources: sources_of(view, readings)?,
+        deleted: deleted_of(view, definitions, readings)?,
+    })
+}
+
+/// Whether an instruction that touches the range can be repeated.
+fn has_repeatable(view: SpillView<'_>, touched: &[u32]) -> bool
+    ensures { result ≡ false → FindsInstrs view.entry.live.now.table view.entry.live.now.func.blocks → (p j : ℕ) (b : Block) (i : Instr) → slice_get view.entry.live.now.func.blocks p ≡ Some b → slice_get b.instrs j ≡ Some i → has i.id touched.now ≡ true → does is_constant view.entry.target.now i ≡ false }
+{
     'touched: for id in touched {
-        if let Some(instr) = view.live.instr(*id) {
-            add_readings(view, instr, &mut place, &mut readings)?;
+        if is_repeatable_id(view, *id) {
+            return true;
         }
+    }
+    false
+}
+
+/// The readings of the range, each with the definition that is repeated for it.
+fn readings_of(
+    view: SpillView<'_>,
+    definitions: &[Definition],
+    touched: &[u32],
+) -> Result<Vec<RematUse>, AllocError>
+    ensures { IfOk result (λ us. MaySpill view.entry.target.now view.entry.live.now.func view.entry.live.now.table view.entry.v → AreTouched view.entry.live.now.table view.entry.v touched.now → Lists view.entry definitions.now (keyed_by view.entry touched.now) [] us.items) }
+{
+    let mut readings = Vec::new(view.alloc);
+    'touched: for id in touched {
+        add_touched(view, definitions, *id, &mut readings)?;
     }
     Ok(readings)
 }
 
-/// The place whose readings are listed last.
-#[derive(Clone, Copy, PartialEq, Eq)]
-struct RematPlace {
-    /// The instruction that names it.
-    at: Option<u32>,
-    /// The number of readings before.
-    first: usize,
-}
-
-/// Lists the readings by an instruction.
-fn add_readings(
+/// Lists the readings of the place of an instruction. (Those of terminators are listed again for each
+/// of them that touches the range.)
+fn add_touched(
     view: SpillView<'_>,
-    instr: &Instr,
-    place: &mut RematPlace,
+    definitions: &[Definition],
+    id: u32,
     readings: &mut Vec<RematUse>,
-) -> Result<(), AllocError> {
-    match effect_of(view.target, instr) {
-        Some(Effect::Copy) => add_move(view, instr, 1, readings),
-        Some(Effect::Spill) => add_move(view, instr, 0, readings),
-        _ => add_operands(view, instr, place, readings),
+) -> Result<(), AllocError>
+    ensures { (b : Block) (p j : ℕ) (i : Instr) → MaySpill view.entry.target.now view.entry.live.now.func view.entry.live.now.table view.entry.v → slice_get view.entry.live.now.func.blocks p ≡ Some b → slice_get b.instrs j ≡ Some i → i.id ≡ id
+        → OnOk result (Lists view.entry definitions.now (λ s. keyed_readings s (place_at view.entry.target.now b i)) readings.old.items readings.new.items) }
+{
+    match view.live.instr(id) {
+        None => Ok(()),
+        Some(instr) => {
+            if is_terminator(view.target, instr) {
+                add_ends(view, definitions, ends_at(view, id), readings)
+            } else {
+                add_single(view, definitions, instr, readings)
+            }
+        }
     }
 }
 
-/// Lists a reading by one instruction.
+/// The terminators of the block of an instruction.
+fn ends_at<'a>(view: SpillView<'a>, id: u32) -> &'a [Boxed<Instr>]
+    ensures { result.now ≡ ends_by view.entry id }
+{
+    let position = view.live.position_of(id) as usize;
+    match view.live.func().blocks.as_slice().get(position) {
+        Some(block) => ends_of(view.target, block.instrs.as_slice()),
+        None => &[],
+    }
+}
+
+/// The place of the first terminator.
+fn first_end(target: &Target, instrs: &[Boxed<Instr>]) -> Option<usize>
+    ensures { result ≡ position (does is_terminator target.now) instrs.now }
+{
+    instrs
+        .iter()
+        .position(|instr| is_terminator(target, instr.get()))
+}
+
+/// How many instructions stand before the first terminator.
+fn end_place(target: &Target, instrs: &[Boxed<Instr>]) -> usize
+    ensures { result ≡ position_or_len (does is_terminator target.now) instrs.now }
+{
+    match first_end(target, instrs) {
+        Some(place) => place,
+        None => instrs.len(),
+    }
+}
+
+/// The terminators of a block with these instructions.
+fn ends_of<'a>(target: &Target, instrs: &'a [Boxed<Instr>]) -> &'a [Boxed<Instr>]
+    ensures { result.now ≡ drop (position_or_len (does is_terminator target.now) instrs.now) instrs.now }
+{
+    let place = end_place(target, instrs);
+    instrs.split_at(place.min(instrs.len())).1
+}
+
+/// Lists the readings by one instruction, which is a place by itself.
+fn add_single(
+    view: SpillView<'_>,
+    definitions: &[Definition],
+    instr: &Instr,
+    readings: &mut Vec<RematUse>,
+) -> Result<(), AllocError>
+    ensures { IsPlainForm instr.now → OnOk result (Lists view.entry definitions.now (λ s. keyed_effect s instr.now (effect_of view.entry.target.now instr.now) instr.now.operands) readings.old.items readings.new.items) }
+{
+    match effect_of(view.target, instr) {
+        None => add_instr(view, definitions, instr, readings),
+        Some(effect) => add_by_effect(view, definitions, instr, effect, readings),
+    }
+}
+
+/// Lists the readings by an instruction of this effect.
+fn add_by_effect(
+    view: SpillView<'_>,
+    definitions: &[Definition],
+    instr: &Instr,
+    effect: Effect,
+    readings: &mut Vec<RematUse>,
+) -> Result<(), AllocError>
+    ensures { IsPlainForm instr.now → OnOk result (Lists view.entry definitions.now (λ s. keyed_effect s instr.now (Some effect) instr.now.operands) readings.old.items readings.new.items) }
+{
+    if is_copy(effect) {
+        return add_copies(view, definitions, instr, readings);
+    }
+    if is_spill(effect) {
+        return add_stores(view, definitions, instr, readings);
+    }
+    add_instr(view, definitions, instr, readings)
+}
+
+/// Lists the readings by a copy.
+fn add_copies(
+    view: SpillView<'_>,
+    definitions: &[Definition],
+    instr: &Instr,
+    readings: &mut Vec<RematUse>,
+) -> Result<(), AllocError>
+    ensures { IsPlainForm instr.now → OnOk result (Lists view.entry definitions.now (λ s. keyed_effect s instr.now (Some effects.Copy) instr.now.operands) readings.old.items readings.new.items) }
+{
+    match register_at(instr.operands.as_slice(), 0) {
+        None => add_instr(view, definitions, instr, readings),
+        Some(to) => add_copied(view, definitions, instr, &to, readings),
+    }
+}
+
+/// Lists the readings by a copy to this register.
+fn add_copied(
+    view: SpillView<'_>,
+    definitions: &[Definition],
+    instr: &Instr,
+    to: &RegOp,
+    readings: &mut Vec<RematUse>,
+) -> Result<(), AllocError>
+    ensures { register_at instr.now.operands 0 ≡ Some to.now → IsPlainForm instr.now → OnOk result (Lists view.entry definitions.now (λ s. keyed_effect s instr.now (Some effects.Copy) instr.now.operands) readings.old.items readings.new.items) }
+{
+    match register_at(instr.operands.as_slice(), 1) {
+        None => add_instr(view, definitions, instr, readings),
+        Some(from) => add_copy(view, definitions, instr, to, &from, readings),
+    }
+}
+
+/// Lists the readings by a store to a slot.
+fn add_stores(
+    view: SpillView<'_>,
+    definitions: &[Definition],
+    instr: &Instr,
+    readings: &mut Vec<RematUse>,
+) -> Result<(), AllocError>
+    ensures { IsPlainForm instr.now → OnOk result (Lists view.entry definitions.now (λ s. keyed_effect s instr.now (Some effects.Spill) instr.now.operands) readings.old.items readings.new.items) }
+{
+    match register_at(instr.operands.as_slice(), 0) {
+        None => add_instr(view, definitions, instr, readings),
+        Some(from) => add_store(view, definitions, instr, &from, readings),
+    }
+}
+
+/// Lists a reading by these instructions, with the definition that is repeated for it.
 fn add_reading(
     view: SpillView<'_>,
+    definitions: &[Definition],
     demand: RematDemand,
-    by: u32,
+    by: Vec<u32>,
     readings: &mut Vec<RematUse>,
-) -> Result<(), AllocError> {
-    let mut alone = Vec::new(view.alloc);
-    alone.push(by)?;
-    readings.push(RematUse {
+) -> Result<(), AllocError>
+    ensures { OnOk result (ListsOne view.entry definitions.now demand by.items readings.old.items readings.new.items) }
+{
+    let mut reading = RematUse {
         demand,
-        by: alone,
+        by,
         source: None,
-    })?;
+    };
+    reading.source = source_of(view, definitions, &reading);
+    readings.push(reading)?;
     Ok(())
 }
 
-/// Lists the reading by a copy or a store, whose source is the operand at a place.
-fn add_move(
+/// Lists a reading by one instruction.
+fn add_lone(
     view: SpillView<'_>,
-    instr: &Instr,
-    source: usize,
+    definitions: &[Definition],
+    demand: RematDemand,
+    by: u32,
     readings: &mut Vec<RematUse>,
-) -> Result<(), AllocError> {
-    let operands = instr.operands.as_slice();
-    let Some(op) = register_at(operands, source) else {
-        return Ok(());
-    };
-    if !view.is_own(&op) {
+) -> Result<(), AllocError>
+    ensures { OnOk result (ListsOne view.entry definitions.now demand (by ∷ []) readings.old.items readings.new.items) }
+{
+    let mut alone = Vec::new(view.alloc);
+    alone.push(by)?;
+    add_reading(view, definitions, demand, alone, readings)
+}
+
+/// Lists the reading by the source of a copy, if it is the range.
+fn add_copy(
+    view: SpillView<'_>,
+    definitions: &[Definition],
+    instr: &Instr,
+    to: &RegOp,
+    from: &RegOp,
+    readings: &mut Vec<RematUse>,
+) -> Result<(), AllocError>
+    ensures { OnOk result (Lists view.entry definitions.now (λ s. cond (is_own s from.now) (keyed_copy s instr.now to.now from.now ∷ []) []) readings.old.items readings.new.items) }
+{
+    if !view.is_own(from) {
         return Ok(());
     }
-    let wish = match (source, register_at(operands, 0)) {
-        (1, Some(to)) => if_whole(op.index, copy_wish(to.loc)),
-        _ => RematConstraint::Never,
-    };
-    let demand = move_demand(instr.id, op.index, wish);
-    add_reading(view, demand, instr.id, readings)
+    let wish = if_whole(from.index, copy_wish(to.loc));
+    let demand = move_demand(instr.id, from.index, wish);
+    add_lone(view, definitions, demand, instr.id, readings)
+}
+
+/// Lists the reading by what a store stores, if it is the range.
+fn add_store(
+    view: SpillView<'_>,
+    definitions: &[Definition],
+    instr: &Instr,
+    from: &RegOp,
+    readings: &mut Vec<RematUse>,
+) -> Result<(), AllocError>
+    ensures { OnOk result (Lists view.entry definitions.now (λ s. cond (is_own s from.now) (keyed_move s instr.now from.now.index ∷ []) []) readings.old.items readings.new.items) }
+{
+    if !view.is_own(from) {
+        return Ok(());
+    }
+    add_plain(view, definitions, instr, from.index, readings)
+}
+
+/// Lists a reading by a store or a tied use, for which nothing serves.
+fn add_plain(
+    view: SpillView<'_>,
+    definitions: &[Definition],
+    instr: &Instr,
+    index: Option<IndexId>,
+    readings: &mut Vec<RematUse>,
+) -> Result<(), AllocError>
+    ensures { OnOk result (Lists view.entry definitions.now (λ s. keyed_move s instr.now index ∷ []) readings.old.items readings.new.items) }
+{
+    let demand = move_demand(instr.id, index, RematConstraint::Never);
+    add_lone(view, definitions, demand, instr.id, readings)
 }
 
 /// What the reading by a copy, a store or a tied use asks.
@@ -315,74 +533,241 @@ pub(crate) fn first_terminator(view: SpillView<'_>, instrs: &[Boxed<Instr>]) -> 
     instrs.len().saturating_sub(count)
 }
 
-/// Lists the readings by the operands of another instruction.
-fn add_operands(
-    view: SpillView<'_>,
-    instr: &Instr,
-    place: &mut RematPlace,
-    readings: &mut Vec<RematUse>,
-) -> Result<(), AllocError> {
-    let at = place_id(view, instr);
-    if place.at != Some(at) {
-        *place = RematPlace {
-            at: Some(at),
-            first: readings.len(),
-        };
+/// What a way of reading at a place asks.
+fn way_demand(at: u32, way: IndexedClass) -> RematDemand
+    ensures key { (v : ℕ) → result.key ≡ way_key at (way_of v way) }
+    ensures index { result.index ≡ way.index }
+    ensures wish { wish_of result.wish ≡ if_whole way.index (Within way.class) }
+{
+    RematDemand {
+        key: UseKey {
+            at,
+            indexed_class: Some(way),
+        },
+        index: way.index,
+        wish: if_whole(way.index, RematConstraint::Class(way.class)),
     }
-    let first = place.first;
+}
+
+/// Whether an operand with its role reads the range in a way.
+fn is_way(view: SpillView<'_>, role: Option<Role>, operand: &Operand, way: IndexedClass) -> bool
+    ensures { result ≡ list_any (same_use (way_of view.entry.v way)) (cons_option (own_use view.entry.target.now view.entry.live.now.func view.entry.v (role, operand.now)) []) }
+{
+    match way_of_operand(view, role, operand) {
+        None => false,
+        Some(other) => same_naming(way, other),
+    }
+}
+
+/// Whether an instruction reads the range in a way.
+fn reads_so(view: SpillView<'_>, instr: &Instr, way: IndexedClass) -> bool
+    ensures { result ≡ list_any (same_use (way_of view.entry.v way)) (own_uses view.entry.target.now view.entry.live.now.func view.entry.v instr.now) }
+{
     let mut roles = roles_of(view.target, instr);
     'operands: for operand in instr.operands.as_slice() {
         let (role, behind) = next_role(roles);
         roles = behind;
-        if let Some(op) = operand_of_range(view, operand) {
-            if op.def || op.undef {
-                continue;
-            }
-            if is_tied(role) {
-                let demand = move_demand(instr.id, op.index, RematConstraint::Never);
-                add_reading(view, demand, instr.id, readings)?;
-            } else {
-                let demand = way_demand(view, at, role, &op);
-                add_way(view, demand, instr.id, first, readings)?;
-            }
+        if is_way(view, role, operand, way) {
+            return true;
         }
+    }
+    false
+}
+
+/// Adds an instruction, if it reads the range in a way.
+fn add_reader(
+    view: SpillView<'_>,
+    instr: &Instr,
+    way: IndexedClass,
+    by: &mut Vec<u32>,
+) -> Result<(), AllocError>
+    ensures { OnOk result (by.new.items ≡ by.old.items ++ readers view.entry (way_of view.entry.v way) (instr.now ∷ [])) }
+{
+    if reads_so(view, instr, way) {
+        by.push(instr.id)?;
     }
     Ok(())
 }
 
-/// What a way of reading at a place asks, by an operand that reads so.
-fn way_demand(view: SpillView<'_>, at: u32, role: Option<Role>, op: &RegOp) -> RematDemand
-    ensures key { result.key ≡ way_key at (way_of view.entry.v (named_by view.entry role op.now)) }
-    ensures index { result.index ≡ op.now.index }
-    ensures wish { wish_of result.wish ≡ if_whole op.now.index (Within (operand_class view.entry.target.now view.entry.live.now.func role op.now)) }
+/// The instructions of these that read the range in a way.
+fn readers_of(
+    view: SpillView<'_>,
+    instrs: &[Boxed<Instr>],
+    way: IndexedClass,
+) -> Result<Vec<u32>, AllocError>
+    ensures { IfOk result (λ by. by.items ≡ readers view.entry (way_of view.entry.v way) instrs.now) }
 {
-    let indexed_class = naming_of(view, role, op);
-    RematDemand {
-        key: UseKey {
-            at,
-            indexed_class: Some(indexed_class),
-        },
-        index: op.index,
-        wish: if_whole(op.index, RematConstraint::Class(indexed_class.class)),
+    let mut by = Vec::new(view.alloc);
+    'instrs: for instr in instrs {
+        add_reader(view, instr.get(), way, &mut by)?;
+    }
+    Ok(by)
+}
+
+/// Lists the readings of the range by the operands of an instruction.
+fn add_instr(
+    view: SpillView<'_>,
+    definitions: &[Definition],
+    instr: &Instr,
+    readings: &mut Vec<RematUse>,
+) -> Result<(), AllocError>
+    ensures { IsPlainForm instr.now → OnOk result (Lists view.entry definitions.now (λ s. keyed_operands s (instr.now ∷ [])) readings.old.items readings.new.items) }
+{
+    let mut ways = Vec::new(view.alloc);
+    add_ways(view, instr, &mut ways)?;
+    add_instr_ways(view, definitions, instr, ways.as_slice(), readings)?;
+    add_tied(view, definitions, instr, readings)
+}
+
+/// Lists the ways in which an instruction reads the range.
+fn add_instr_ways(
+    view: SpillView<'_>,
+    definitions: &[Definition],
+    instr: &Instr,
+    ways: &[IndexedClass],
+    readings: &mut Vec<RematUse>,
+) -> Result<(), AllocError>
+    ensures { IsPlainForm instr.now → OnOk result (Lists view.entry definitions.now (λ s. flat_map (λ w. keyed_way s (instr.now ∷ []) (way_of view.entry.v w) ∷ []) ways.now) readings.old.items readings.new.items) }
+{
+    'ways: for way in ways {
+        add_instr_way(view, definitions, instr, *way, readings)?;
+    }
+    Ok(())
+}
+
+/// Lists a way in which an instruction reads the range.
+fn add_instr_way(
+    view: SpillView<'_>,
+    definitions: &[Definition],
+    instr: &Instr,
+    way: IndexedClass,
+    readings: &mut Vec<RematUse>,
+) -> Result<(), AllocError>
+    ensures { IsPlainForm instr.now → OnOk result (Lists view.entry definitions.now (λ s. keyed_way s (instr.now ∷ []) (way_of view.entry.v way) ∷ []) readings.old.items readings.new.items) }
+{
+    let mut by = Vec::new(view.alloc);
+    add_reader(view, instr, way, &mut by)?;
+    add_reading(view, definitions, way_demand(instr.id, way), by, readings)
+}
+
+/// Lists the readings of the range by the operands of the terminators of a block.
+fn add_ends(
+    view: SpillView<'_>,
+    definitions: &[Definition],
+    instrs: &[Boxed<Instr>],
+    readings: &mut Vec<RematUse>,
+) -> Result<(), AllocError>
+    ensures { AllByRecursion IsPlainForm instrs.now → OnOk result (Lists view.entry definitions.now (λ s. keyed_operands s instrs.now) readings.old.items readings.new.items) }
+{
+    let mut ways = Vec::new(view.alloc);
+    add_all_ways(view, instrs, &mut ways)?;
+    add_end_ways(view, definitions, instrs, ways.as_slice(), readings)?;
+    add_all_tied(view, definitions, instrs, readings)
+}
+
+/// Lists the ways in which terminators read the range.
+fn add_end_ways(
+    view: SpillView<'_>,
+    definitions: &[Definition],
+    instrs: &[Boxed<Instr>],
+    ways: &[IndexedClass],
+    readings: &mut Vec<RematUse>,
+) -> Result<(), AllocError>
+    ensures { AllByRecursion IsPlainForm instrs.now → OnOk result (Lists view.entry definitions.now (λ s. flat_map (λ w. keyed_way s instrs.now (way_of view.entry.v w) ∷ []) ways.now) readings.old.items readings.new.items) }
+{
+    'ways: for way in ways {
+        add_end_way(view, definitions, instrs, *way, readings)?;
+    }
+    Ok(())
+}
+
+/// Lists a way in which terminators read the range.
+fn add_end_way(
+    view: SpillView<'_>,
+    definitions: &[Definition],
+    instrs: &[Boxed<Instr>],
+    way: IndexedClass,
+    readings: &mut Vec<RematUse>,
+) -> Result<(), AllocError>
+    ensures { AllByRecursion IsPlainForm instrs.now → OnOk result (Lists view.entry definitions.now (λ s. keyed_way s instrs.now (way_of view.entry.v way) ∷ []) readings.old.items readings.new.items) }
+{
+    let by = readers_of(view, instrs, way)?;
+    add_reading(view, definitions, way_demand(place_name(instrs), way), by, readings)
+}
+
+/// Lists the readings by tied uses of instructions.
+fn add_all_tied(
+    view: SpillView<'_>,
+    definitions: &[Definition],
+    instrs: &[Boxed<Instr>],
+    readings: &mut Vec<RematUse>,
+) -> Result<(), AllocError>
+    ensures { OnOk result (Lists view.entry definitions.now (λ s. flat_map (keyed_tied_uses s) instrs.now) readings.old.items readings.new.items) }
+{
+    'instrs: for instr in instrs {
+        add_tied(view, definitions, instr.get(), readings)?;
+    }
+    Ok(())
+}
+
+/// Lists the readings by tied uses of an instruction.
+fn add_tied(
+    view: SpillView<'_>,
+    definitions: &[Definition],
+    instr: &Instr,
+    readings: &mut Vec<RematUse>,
+) -> Result<(), AllocError>
+    ensures { OnOk result (Lists view.entry definitions.now (λ s. keyed_tied_uses s instr.now) readings.old.items readings.new.items) }
+{
+    let mut roles = roles_of(view.target, instr);
+    'operands: for operand in instr.operands.as_slice() {
+        let (role, behind) = next_role(roles);
+        roles = behind;
+        let tied = tied_own(view, instr, role, operand);
+        add_tied_use(view, definitions, instr, tied, readings)?;
+    }
+    Ok(())
+}
+
+/// Lists the reading by a tied use, if there is one.
+fn add_tied_use(
+    view: SpillView<'_>,
+    definitions: &[Definition],
+    instr: &Instr,
+    tied: Option<RegOp>,
+    readings: &mut Vec<RematUse>,
+) -> Result<(), AllocError>
+    ensures { OnOk result (Lists view.entry definitions.now (λ s. keyed_uses s instr.now (cons_option tied [])) readings.old.items readings.new.items) }
+{
+    match tied {
+        None => Ok(()),
+        Some(op) => add_plain(view, definitions, instr, op.index, readings),
     }
 }
 
-/// Lists that an instruction reads in a way, at the place whose readings are those from a number on.
-/// Each way of reading at a place is one reading.
-fn add_way(
-    view: SpillView<'_>,
-    demand: RematDemand,
-    by: u32,
-    first: usize,
-    readings: &mut Vec<RematUse>,
-) -> Result<(), AllocError> {
-    'readings: for k in first..readings.len() {
-        if same_key(readings[k].demand.key, demand.key) {
-            readings[k].by.push(by)?;
-            return Ok(());
-        }
+/// Whether an operand with this role is tied to one of these operands.
+fn is_paired(operands: &[Operand], role: Option<Role>) -> bool
+    ensures { result ≡ is_some (option_and_then (register_at operands.now) (option_and_then tied_number role)) }
+{
+    match tied_number(role) {
+        None => false,
+        Some(number) => register_at(operands, number).is_some(),
     }
-    add_reading(view, demand, by, readings)
+}
+
+/// The use of the range that an operand with its role is, if it is tied to an operand.
+fn tied_own(
+    view: SpillView<'_>,
+    instr: &Instr,
+    role: Option<Role>,
+    operand: &Operand,
+) -> Option<RegOp>
+    ensures { result ≡ tied_own view.entry.v instr.now.operands (role, operand.now) }
+{
+    match operand_of_range(view, operand) {
+        Some(op) if !op.undef && is_paired(instr.operands.as_slice(), role) => Some(op),
+        _ => None,
+    }
 }
 
 /// Whether an index picks a lane of the range.
@@ -467,14 +852,6 @@ fn only_definition(
     only
 }
 
-/// Decides which readings are rematerialised.
-fn judge(view: SpillView<'_>, definitions: &[Definition], readings: &mut Vec<RematUse>) {
-    'readings: for k in 0..readings.len() {
-        let source = source_of(view, definitions, &readings[k]);
-        readings[k].source = source;
-    }
-}
-
 /// Whether an instruction, by its id, gives what a reading asks for.
 fn id_serves(view: SpillView<'_>, wish: RematConstraint, id: u32) -> bool
     ensures { FindsInstrs view.entry.live.now.table view.entry.live.now.func.blocks → (p j : ℕ) (b : Block) (i : Instr) → slice_get view.entry.live.now.func.blocks p ≡ Some b → slice_get b.instrs j ≡ Some i → i.id ≡ id
@@ -551,31 +928,58 @@ fn definition_class(roles: &[Role]) -> Option<ClassId>
     }
 }
 
-/// Lists the readings that are rematerialised, each with its source.
-fn list_sources(readings: &[RematUse], sources: &mut Vec<RematSource>) -> Result<(), AllocError> {
+/// The readings that are rematerialised, each with its source.
+fn sources_of(view: SpillView<'_>, readings: &[RematUse]) -> Result<Vec<RematSource>, AllocError>
+    ensures { IfOk result (λ sources. sources.items ≡ flat_map told_sources readings.now) }
+{
+    let mut sources = Vec::new(view.alloc);
     'readings: for reading in readings {
-        if let Some(id) = reading.source {
-            sources.push(RematSource {
-                key: reading.demand.key,
-                id,
-            })?;
-        }
+        add_source(reading, &mut sources)?;
+    }
+    Ok(sources)
+}
+
+/// Adds a reading with its source, if it is rematerialised.
+fn add_source(reading: &RematUse, sources: &mut Vec<RematSource>) -> Result<(), AllocError>
+    ensures { OnOk result (sources.new.items ≡ sources.old.items ++ told_sources reading.now) }
+{
+    if let Some(id) = reading.source {
+        sources.push(RematSource {
+            key: reading.demand.key,
+            id,
+        })?;
     }
     Ok(())
 }
 
-/// Lists the definitions that go.
-fn list_deleted(
+/// The definitions that go.
+fn deleted_of(
     view: SpillView<'_>,
     definitions: &[Definition],
     readings: &[RematUse],
-    deleted: &mut Vec<u32>,
-) -> Result<(), AllocError> {
+) -> Result<Vec<u32>, AllocError>
+    ensures { IfOk result (λ gone. (slot : ℕ) (facts : Facts) (test : ℕ → Bool) → FindsInstrs view.entry.live.now.table view.entry.live.now.func.blocks → TestsNeedless (spilling_of view.entry slot facts) definitions.now readings.now test → gone.items ≡ filter test (map (λ d. d.id) definitions.now)) }
+{
+    let mut deleted = Vec::new(view.alloc);
     'definitions: for definition in definitions {
-        if is_needless(view, definition, readings) {
-            deleted.push(definition.id)?;
-        }
+        add_deleted(view, definition, readings, &mut deleted)?;
     }
+    Ok(deleted)
+}
+
+/// Adds a definition, if it goes.
+fn add_deleted(
+    view: SpillView<'_>,
+    definition: &Definition,
+    readings: &[RematUse],
+    deleted: &mut Vec<u32>,
+) -> Result<(), AllocError>
+    ensures { OnOk result ((slot : ℕ) (facts : Facts) (test : ℕ → Bool) → FindsInstrs view.entry.live.now.table view.entry.live.now.func.blocks → TestsOne (spilling_of view.entry slot facts) definition.now readings.now test → deleted.new.items ≡ deleted.old.items ++ filter test (definition.now.id ∷ [])) }
+{
+    if !is_needless(view, definition, readings) {
+        return Ok(());
+    }
+    deleted.push(definition.id)?;
     Ok(())
 }
 
