@@ -364,8 +364,8 @@ ok-both (Err e) P Q S f p q = tt
 
 -- one of the numbers so far, or the next
 
-pub no-empty : {n : ℕ} → has n [] ≡ true → ⊥
-no-empty h = cc
+pub no-empty : (n : ℕ) → has n [] ≡ true → ⊥
+no-empty n h = cc
 
 pub no-true : true ≡ false → ⊥
 no-true e = cc

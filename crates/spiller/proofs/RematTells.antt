@@ -151,7 +151,7 @@ module _ (view : SpillView) (may : MaySpill view.target.now view.live.now.func v
       key = way_key (place_name p) x
 
       each : (u : RematUse) → Member u us → same_key key u.demand.key ≡ true → u.source ≡ option_map (λ d. d.id) (repeated_for s (way_reading s p x))
-      each u mu yes = go (kinds s pl.place k.0 pl.reading)
+      each u mu hit = go (kinds s pl.place k.0 pl.reading)
         where
           k : (k : Keyed) × Member k (keyed_by view ids s) × IsKeyed s k u
           k = keyed-of s (keyed_by view ids s) us keyed u mu
@@ -160,10 +160,10 @@ module _ (view : SpillView) (may : MaySpill view.target.now view.live.now.func v
           pl = keyed-back view may ids are slot facts k.0 k.1
 
           go : Kind s pl.place k.0 → u.source ≡ option_map (λ d. d.id) (repeated_for s (way_reading s p x))
-          go (inr z) = let same : false ≡ true = second_of_both (nat_eq key.at z.0.id) false (ap (same_key key) (sym (k.2.key ∙ z.2)) ∙ yes) in absurd (cc)
+          go (inr z) = let same : false ≡ true = second_of_both (nat_eq key.at z.0.id) false (ap (same_key key) (sym (k.2.key ∙ z.2)) ∙ hit) in absurd (cc)
           go (inl z) =
               let y = z.0 in
-              let same : same_key key (way_key (place_name pl.place) y) ≡ true = ap (same_key key) (sym (k.2.key ∙ ap (λ (j : Keyed). j.0) z.2)) ∙ yes in
+              let same : same_key key (way_key (place_name pl.place) y) ≡ true = ap (same_key key) (sym (k.2.key ∙ ap (λ (j : Keyed). j.0) z.2)) ∙ hit in
               let way = second_of_both (nat_eq (place_name p) (place_name pl.place)) (same_index x.index y.index && same_class x.class y.class) same in
               let a = head-in b mb p mp x mx in
               let c = head-in pl.block pl.in_func pl.place pl.in_block y z.1 in
@@ -198,7 +198,7 @@ module _ (view : SpillView) (may : MaySpill view.target.now view.live.now.func v
           subst (λ c. Member (cond c (ends_in s.target b.instrs) (i ∷ [])) (places_of s.target b)) plain (place-there s.target b.instrs i (in-line s.target f view.live.now.table s.range may b mb) mi)
 
       each : (u : RematUse) → Member u us → same_key key u.demand.key ≡ true → u.source ≡ option_map (λ d. d.id) (repeated_for s (copy_reading s i d o))
-      each u mu yes = go (kinds s pl.place k.0 pl.reading)
+      each u mu hit = go (kinds s pl.place k.0 pl.reading)
         where
           k : (k : Keyed) × Member k (keyed_by view ids s) × IsKeyed s k u
           k = keyed-of s (keyed_by view ids s) us keyed u mu
@@ -207,9 +207,9 @@ module _ (view : SpillView) (may : MaySpill view.target.now view.live.now.func v
           pl = keyed-back view may ids are slot facts k.0 k.1
 
           go : Kind s pl.place k.0 → u.source ≡ option_map (λ d. d.id) (repeated_for s (copy_reading s i d o))
-          go (inl z) = let same : false ≡ true = second_of_both (nat_eq key.at (place_name pl.place)) false (ap (same_key key) (sym (k.2.key ∙ ap (λ (j : Keyed). j.0) z.2)) ∙ yes) in absurd (cc)
+          go (inl z) = let same : false ≡ true = second_of_both (nat_eq key.at (place_name pl.place)) false (ap (same_key key) (sym (k.2.key ∙ ap (λ (j : Keyed). j.0) z.2)) ∙ hit) in absurd (cc)
           go (inr z) =
-              let same : i.id ≡ z.0.id = eqb-true i.id z.0.id (first_of_both (nat_eq i.id z.0.id) true (ap (same_key key) (sym (k.2.key ∙ z.2)) ∙ yes)) in
+              let same : i.id ≡ z.0.id = eqb-true i.id z.0.id (first_of_both (nat_eq i.id z.0.id) true (ap (same_key key) (sym (k.2.key ∙ z.2)) ∙ hit)) in
               let one : i ∷ [] ≡ pl.place = one-place view may ids are slot facts b pl.block (i ∷ []) pl.place mb pl.in_func mp pl.in_block i z.0 first z.1 same in
               let m : Member k.0 (keyed_copy s i d o ∷ []) = subst (Member k.0) (ap (keyed_readings s) (sym one) ∙ alone) pl.reading in
               let this : k.0 ≡ keyed_copy s i d o = member-elim k.0 (keyed_copy s i d o) [] (λ e. e) (λ w. absurd (member-none k.0 w)) m in

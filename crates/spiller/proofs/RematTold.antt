@@ -2,6 +2,7 @@
 use Rattle.std.proofs.Common.{◌≡◌, ◌∙◌, ◌⊎◌, inl, inr, ℕ, zero, suc, ◌<◌, Bool, true, false, cond, not, ◌&&◌, ◌||◌, List, [], ◌∷◌, ◌++◌, Option, Some, None, filter, flat_map, length, map, refl, sym, ap, subst, arith, eq-eqb, eqb-true}
 use Rattle.std.specs.Prelude.{find, is_some, nat_eq, nat_lt, option_map, slice_get}
 use Rattle.std.specs.List.{AllByRecursion, list_all, list_any}
+use Rattle.std.proofs.lemmas.Bool.{lt-ltb}
 use Rattle.target_base.specs.declared.types.Effect.{Effect}
 use Rattle.target_base.specs.declared.types.Effect.TheVariants as effects
 use Rattle.target_base.specs.declared.types.Target.{Target}
@@ -60,7 +61,7 @@ all-in p (x ∷ xs) h = λ k. h x first k && all-in p xs (λ y m. h y (later m))
 
 member-some : {X : Type 0} (x : X) (xs : List X) → Member x xs → nat_lt 0 (length xs) ≡ true
 member-some x [] m = absurd (member-none x m)
-member-some x (y ∷ xs) m = refl
+member-some x (y ∷ xs) m = lt-ltb 0 (length (y ∷ xs)) (omega arith)
 
 some-member : {X : Type 0} (xs : List X) → nat_lt 0 (length xs) ≡ true → (x : X) × Member x xs
 some-member [] h = absurd (cc)
@@ -104,8 +105,8 @@ found-source key n (u ∷ us) h some = go u.source refl (found-source key n us (
     past e = by some
       where
         at : (w : RematUse) → same_key key w.demand.key ≡ true → w ≡ u → (u.source ≡ None) ⊎ (same_key key u.demand.key ≡ false) → n ≡ None
-        at w yes same (inl q) = sym (h u first (ap (λ (z : RematUse). same_key key z.demand.key) (sym same) ∙ yes)) ∙ q
-        at w yes same (inr q) = let z : true ≡ false = sym yes ∙ (ap (λ (z : RematUse). same_key key z.demand.key) same ∙ q) in absurd (cc)
+        at w hit same (inl q) = sym (h u first (ap (λ (z : RematUse). same_key key z.demand.key) (sym same) ∙ hit)) ∙ q
+        at w hit same (inr q) = let z : true ≡ false = sym hit ∙ (ap (λ (z : RematUse). same_key key z.demand.key) same ∙ q) in absurd (cc)
 
         by : (n ≡ None) ⊎ ((w : RematUse) × Member w (u ∷ us) × (same_key key w.demand.key ≡ true)) → (n ≡ None) ⊎ ((w : RematUse) × Member w us × (same_key key w.demand.key ≡ true))
         by (inl q) = inl q
@@ -116,7 +117,7 @@ found-source key n (u ∷ us) h some = go u.source refl (found-source key n us (
     go (Some id) e ih = at (same_key key u.demand.key) refl
       where
         at : (b : Bool) → same_key key u.demand.key ≡ b → option_map (λ (s : RematSource). s.id) (cond b (Some (record { key = u.demand.key; id = id })) (find (λ (s : RematSource). same_key key s.key) rest)) ≡ n
-        at true yes = sym e ∙ h u first yes
+        at true hit = sym e ∙ h u first hit
         at false no' = ih (past (inr no'))
 
 module _ (view : SpillView) (may : MaySpill view.target.now view.live.now.func view.live.now.table view.v) (ids : List ℕ) (ds : List Definition) (told : AreDefinitions view.target.now view.live.now.func view.live.now.table view.v ids ds) (slot : ℕ) (facts : Facts) (tell : AreFacts view.target.now view.live.now.func view.v facts)

@@ -1,9 +1,9 @@
 use Rattle.std.proofs.Common.{◌∙◌, [], ◌∷◌, ap, refl, subst, sym}
 use Rattle.std.specs.Prelude.{option_copied}
 use Rattle.std.proofs.lemmas.Result.{on_ok_weaker}
-use Rattle.mir_func.specs.Binding.{does, is_terminator}
+use Rattle.mir_func.specs.Binding.{does, effect_of, is_terminator}
 use Rattle.live_laws.proofs.Effects.Moving.{some-same}
-use Rattle.spiller.specs.Listed.{keyed_operands, keyed_readings, place_at}
+use Rattle.spiller.specs.Listed.{keyed_effect, keyed_operands, keyed_readings, place_at}
 use Rattle.spiller.specs.Placing.{IsPlainForm}
 use Rattle.spiller.specs.Views.{spilling_of}
 use Rattle.spiller.proofs.ListSteps.{lists-same}
@@ -32,6 +32,6 @@ returns-else-is_terminator c = λ b p j i may stands there named.
     let same = some-same c.in-Some.instr.now i (sym (ap option_copied c.in-Some.is) ∙ c.instr.ensures (finds view may) p j b i stands there named) in
     let none = ap (does is_terminator t) (sym same) ∙ (sym c.is_terminator.ensures ∙ c.if-is_terminator.false) in
     on_ok_weaker c.add_single.result
-    (λ l. lists-same view c.args.definitions.now (λ s. keyed_readings s (c.in-Some.instr.now ∷ [])) (λ s. keyed_readings s (place_at t b i)) c.args.readings.now.items c.add_single.new.readings.items
+    (λ l. lists-same view c.args.definitions.now (λ s. keyed_effect s c.in-Some.instr.now (effect_of t c.in-Some.instr.now) c.in-Some.instr.now.operands) (λ s. keyed_readings s (place_at t b i)) c.args.readings.now.items c.add_single.new.readings.items
     (λ slot facts. ap (keyed_readings (spilling_of view slot facts)) (ap (λ y. y ∷ []) same ∙ sym (at-one view may p j b i stands there none))) l)
     (c.add_single.ensures (subst IsPlainForm (sym same) (one-formed view may p j b i stands there)))

@@ -5,7 +5,7 @@ use Rattle.spiller.proofs.ListSteps.{no-empty, no-true, take-has}
 use Rattle.spiller.proofs.remat.has_repeatable.Goals as goal
 
 pub touched-init : goal.touched-init
-touched-init c = λ finds p j b i stands there h. absurd (no-empty h)
+touched-init c = λ finds p j b i stands there h. absurd (no-empty i.id h)
 
 pub touched-preserved : goal.touched-preserved
 touched-preserved c = λ finds p j b i stands there h.
