@@ -7,6 +7,15 @@ pub mod SlotsGiven
 pub mod FirstUnreserved
 pub mod FirstLanes
 pub mod WaysFound
+pub mod Walking
+pub mod CodePlaces
+pub mod PathsFound
+pub mod WalkFound
+pub mod FlowsGathered
+pub mod Untouched
+pub mod ReachesTold
+pub mod ReadingsFound
+pub mod ReadingSources
 pub mod Added
 pub mod OwnUses
 pub mod TiedUses
@@ -40,3 +49,10 @@ pub mod NewRanges
 pub mod Spills
 pub mod Told
 pub mod PathsTold
+pub mod ListSteps
+pub mod ReadingPlaces
+pub mod ReadingsListed
+pub mod KeyedPlaces
+pub mod RematTold
+pub mod RematTells
+pub mod NothingRepeated

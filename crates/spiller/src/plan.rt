@@ -447,43 +447,4 @@ impl<'a> SpillView<'a> {
             Some(index) => self.is_one_behind(self.target.lanes_at(index), id),
         }
     }
-
-    /// The lanes of the range of which that holds, a bit for each.
-    fn lanes_where<F: Fn(u32) -> bool>(&self, holds: F) -> u32
-        requires { F.IsAlwaysCallable holds }
-    {
-        let mut lanes = 0u32;
-        'lanes: for k in 0..self.live.lane_count(self.v).min(32) {
-            if holds(k) {
-                lanes |= 1u32 << k;
-            }
-        }
-        lanes
-    }
-
-    /// The lanes of the range that an instruction reads, a bit for each.
-    pub fn lanes_read(&self, id: u32) -> u32 {
-        self.lanes_where(|k| self.live.is_read(self.v, k, id))
-    }
-
-    /// The lanes of the range that an instruction writes, a bit for each.
-    pub fn lanes_written(&self, id: u32) -> u32 {
-        self.lanes_where(|k| self.live.is_written(self.v, k, id))
-    }
-
-    /// The lanes of the range that an index picks, a bit for each.
-    pub fn lanes_named(&self, index: Option<IndexId>) -> u32 {
-        match index {
-            None => self.lanes_where(|_| true),
-            Some(index) => {
-                let mut lanes = 0u32;
-                'picked: for k in self.target.lanes_at(index) {
-                    if *k < 32 {
-                        lanes |= 1u32 << *k;
-                    }
-                }
-                lanes
-            }
-        }
-    }
 }

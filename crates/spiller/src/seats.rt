@@ -88,7 +88,7 @@ fn as_tiny(op: RegOp, range: u32) -> RegOp
 }
 
 /// The way in which an operand with its role reads the range, unless it is tied.
-fn way_of_operand(
+pub(crate) fn way_of_operand(
     view: SpillView<'_>,
     role: Option<Role>,
     operand: &Operand,
@@ -136,7 +136,7 @@ fn add_way(
 
 /// Adds the ways in which an instruction reads the range, each once.
 #[tactic(auto, using(crate::proofs::Steps::ways_steps))]
-fn add_ways(
+pub(crate) fn add_ways(
     view: SpillView<'_>,
     instr: &Instr,
     ways: &mut Vec<IndexedClass>,
@@ -153,7 +153,7 @@ fn add_ways(
 }
 
 /// Adds the ways in which instructions read the range, each once.
-fn add_all_ways(
+pub(crate) fn add_all_ways(
     view: SpillView<'_>,
     instrs: &[Boxed<Instr>],
     ways: &mut Vec<IndexedClass>,
@@ -250,7 +250,7 @@ fn give_ways(
 }
 
 /// The id of the first of these instructions, which names their place.
-fn place_name(instrs: &[Boxed<Instr>]) -> u32
+pub(crate) fn place_name(instrs: &[Boxed<Instr>]) -> u32
     ensures { result ≡ place_name instrs.now }
 {
     match instrs {
