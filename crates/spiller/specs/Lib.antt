@@ -5,3 +5,17 @@ pub mod Reaching
 pub mod Setting
 pub mod Rematerialised
 pub mod Spilled
+pub mod MaySpill
+pub mod Views
+pub mod Walks
+pub mod Readings
+pub mod Planned
+pub mod Additions
+pub mod Seating
+pub mod Moving
+pub mod Placing
+pub mod WholePlan
+pub mod EditLaw
+pub mod Marks
+pub mod Growing
+pub mod Listed

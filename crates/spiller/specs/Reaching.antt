@@ -6,7 +6,7 @@ use Rattle.meaning.specs.declared.types.Lane.TheVariants.{VirtualLane}
 use Rattle.meaning.specs.declared.types.Source.{Source}
 use Rattle.meaning.specs.declared.types.Source.TheVariants.{FromLane}
 use Rattle.meaning.specs.Code.{Edge, Item, Code, found}
-use Rattle.meaning.specs.Live.{Among, reads_of, exits_of, in_order, Writing, KeptAfter}
+use Rattle.meaning.specs.Live.{Among, reads_of, exits_of, in_order, is_slot, Writing, KeptAfter}
 use Rattle.mir_meaning.specs.Stands.{Reaches as Fills}
 use Rattle.mir_func.specs.Value.{Function}
 use Rattle.mir_meaning.specs.Registers.{is_reserved}
@@ -22,11 +22,12 @@ pub data Leads (code : Code) (l : Lane) : Code → Code → Type 0 where
 abbrev pub Brings : Code → Lane → Item → Code → Code → Type 0
 Brings code l i p q = Writing i l × ((in_order i ≡ true) × Leads code l p q ⊎ (e : Edge) × Among e (exits_of i) × Leads code l (found e.block code) q)
 
--- an instruction, which p follows, reads the lane: in any case, or where a lane that it fills from it is live behind it or reserved
+-- An instruction, which p follows, reads the lane: in any case, or where a lane that it fills from it is live behind it or reserved.
+-- A slot's lane is one lane at all its widths.
 abbrev pub Reads : (Lane → Bool) → Code → Lane → Item → Code → Type 0
 Reads reserved code l i p =
     ((ss : List Source) × Among ss (reads_of i) × Among (FromLane l) ss)
-    ⊎ ((a : Lane) × Writing i a × Fills i l a × KeptAfter reserved code i p a)
+    ⊎ ((a : Lane) × (Writing i a ⊎ (is_slot a ≡ true)) × Fills i l a × KeptAfter reserved code i p a)
 
 -- instruction d writes lane k of the range, instruction i reads it, and a path leads from the exit of d to the entry
 -- of i on which nothing writes it: this definition reaches this reading

@@ -1,33 +1,58 @@
-//! Questions of a target that are answered on every input, where the target's own answer may be missing.
+//! The opcodes of stores and reloads, and the register that is stored where nothing has a value. Each
+//! question is answered on every input: opcode 0 and register 0 stand for what isn't there.
 
-use target_base::classes::are_within;
+ghost use Rattle.std.specs.Prelude.{◌≡◌, find, option_and_then};
+ghost use Rattle.target_base.specs.Registers.{spill_place, reload_place};
+ghost use Rattle.target_base.specs.Storage.{is_unreserved};
+ghost use Rattle.mir_meaning.specs.Places.{domain};
+ghost use Rattle.spiller.specs.Setting.{first_of, opcode};
+
 use target_base::{ClassId, OpId, Reg, Target};
 
-/// The first class that holds a register; class 0 where none does.
-pub(crate) fn home(target: &Target, r: Reg) -> ClassId {
-    target.home_at(r).unwrap_or(ClassId(0))
+/// The opcode that stores a register of a class: the first spill opcode whose class holds all registers
+/// of this one.
+pub(crate) fn spill_op(target: &Target, class: Option<ClassId>) -> OpId
+    ensures { result ≡ opcode (option_and_then (spill_place target.now) class) }
+{
+    match class {
+        None => OpId(0),
+        Some(class) => match target.spill_at(class) {
+            None => OpId(0),
+            Some(op) => op,
+        },
+    }
 }
 
-/// The first spill opcode whose class holds all registers of a class; opcode 0 where none does.
-pub(crate) fn spill_op(target: &Target, class: ClassId) -> OpId {
-    target.spill_at(class).unwrap_or(OpId(0))
+/// The opcode that reloads a register of a class: the first reload opcode whose class holds all
+/// registers of this one.
+pub(crate) fn reload_op(target: &Target, class: Option<ClassId>) -> OpId
+    ensures { result ≡ opcode (option_and_then (reload_place target.now) class) }
+{
+    match class {
+        None => OpId(0),
+        Some(class) => match target.reload_at(class) {
+            None => OpId(0),
+            Some(op) => op,
+        },
+    }
 }
 
-/// The first reload opcode whose class holds all registers of a class; opcode 0 where none does.
-pub(crate) fn reload_op(target: &Target, class: ClassId) -> OpId {
-    target.reload_at(class).unwrap_or(OpId(0))
+/// The first of these registers that isn't reserved.
+fn find_unreserved(target: &Target, regs: &[Reg]) -> Option<Reg>
+    ensures { result ≡ find (is_unreserved target.now.reserved target.now.regs) regs.now }
+{
+    regs.iter().copied().find(|r| target.is_unreserved(*r))
 }
 
-/// Whether all registers of a class lie in another.
-pub(crate) fn is_within(target: &Target, class: ClassId, other: ClassId) -> bool {
-    are_within(target.regs_in(class), target.regs_in(other))
-}
-
-/// The first unreserved register of a class; its first one where all are reserved.
-pub(crate) fn first_unreserved(target: &Target, class: ClassId) -> Reg {
-    let own = target.regs_in(class);
-    match own.iter().find(|r| target.is_unreserved(**r)) {
-        Some(r) => *r,
-        None => own.first().copied().unwrap_or(Reg(0)),
+/// The first unreserved register of a class.
+pub(crate) fn first_unreserved(target: &Target, class: Option<ClassId>) -> Reg
+    ensures { result ≡ first_of (domain target.now class) }
+{
+    match class {
+        None => Reg(0),
+        Some(class) => match find_unreserved(target, target.regs_in(class)) {
+            None => Reg(0),
+            Some(r) => r,
+        },
     }
 }

@@ -14,9 +14,11 @@ mod remat;
 mod roles;
 mod seats;
 pub mod slot_map;
+mod spill_law;
 mod spilled;
 pub mod stop;
 
 pub use slot_map::SlotMap;
+pub use spill_law::{facts_law, spill_edits_law};
 pub use spilled::{MOST_RANGES, spill};
 pub use stop::{Allocated, RunStop};

@@ -1,0 +1,9 @@
+use Rattle.std.proofs.Common.{[], ◌∷◌, flat_map, take}
+use Rattle.std.specs.List.{AllByRecursion}
+use Rattle.spiller.specs.Listed.{Lists, keyed_way}
+use Rattle.spiller.specs.Placing.{IsPlainForm}
+use Rattle.spiller.specs.Views.{way_of}
+use Rattle.spiller.proofs.remat.add_end_ways.Given as goal
+
+abbrev pub invariant-ways : goal.invariant-ways
+invariant-ways l = AllByRecursion IsPlainForm l.instrs → Lists l.view l.definitions (λ s. flat_map (λ w. keyed_way s l.instrs (way_of l.view.v w) ∷ []) (take l.way-index l.ways)) l.fn.readings.items l.readings.items

@@ -1,0 +1,12 @@
+use Rattle.std.proofs.Common.{◌≡◌, ℕ, Bool, filter, map, take}
+use Rattle.live_lanes.specs.Touching.{FindsInstrs}
+use Rattle.spiller.specs.declared.reaching.Definition.{Definition}
+use Rattle.spiller.specs.Listed.{TestsNeedless}
+use Rattle.spiller.specs.Reaching.{Facts}
+use Rattle.spiller.specs.Views.{spilling_of}
+use Rattle.spiller.proofs.remat.deleted_of.Given as goal
+
+abbrev pub invariant-definitions : goal.invariant-definitions
+invariant-definitions l =
+    (slot : ℕ) (facts : Facts) (test : ℕ → Bool) → FindsInstrs l.view.live.now.table l.view.live.now.func.blocks → TestsNeedless (spilling_of l.view slot facts) l.definitions l.readings test
+    → l.deleted.items ≡ filter test (map (λ (d : Definition). d.id) (take l.definition-index l.definitions))

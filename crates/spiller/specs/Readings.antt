@@ -1,0 +1,75 @@
+-- What is planned to be rematerialised, as the definition's words name it.
+use Rattle.std.specs.Prelude.{◌≡◌, map, is_some, not, ℕ, Bool, true, false, ◌&&◌, nat_eq, find, List, [], ◌∷◌, Option, Some, None, option_map}
+use Rattle.std.specs.List.{list_any}
+use Rattle.mir_meaning.specs.Paths.{has}
+use Rattle.spiller.specs.declared.reaching.Definition.{Definition}
+use Rattle.spiller.specs.declared.reaching.LaneReading.{LaneReading}
+use Rattle.spiller.specs.declared.remat.Remat.{Remat}
+use Rattle.spiller.specs.declared.remat.RematUse.{RematUse}
+use Rattle.spiller.specs.declared.remat.UseKey.{UseKey}
+use Rattle.target_base.specs.declared.types.Target.{Target}
+use Rattle.mir_func.specs.Value.{Function}
+use Rattle.mir_meaning.specs.Points.{Tests}
+use Rattle.live_lanes.specs.declared.table.Table.{Table}
+use Rattle.live_lanes.specs.Touching.{AreTouched}
+use Rattle.spiller.specs.Reaching.{Reaches}
+use Rattle.spiller.specs.Rematerialised.{Reading}
+use Rattle.spiller.specs.Setting.{Spilling, own_lanes}
+use Rattle.spiller.specs.declared.roles.IndexedClass.{IndexedClass}
+use Rattle.spiller.specs.Views.{same_way, wish_of}
+use Rattle.spiller.specs.Walks.{lists, told_by}
+
+-- both name a way of reading alike, or neither names one
+abbrev pub same_ways : Option IndexedClass → Option IndexedClass → Bool
+same_ways None None = true
+same_ways (Some a) (Some b) = same_way a b
+same_ways a b = false
+
+-- the readings are one
+abbrev pub same_key : UseKey → UseKey → Bool
+same_key a b = nat_eq a.at b.at && same_ways a.indexed_class b.indexed_class
+
+-- the id of the instruction that is repeated for a reading
+abbrev pub source_in : Remat → UseKey → Option ℕ
+source_in r key = option_map (λ s. s.id) (find (λ s. same_key key s.key) r.sources.items)
+
+-- an instruction isn't needed any more
+abbrev pub goes_in : Remat → ℕ → Bool
+goes_in r id = has id r.deleted.items
+
+-- a reading of one of these lanes by one of these instructions is listed
+abbrev pub reached_in : List ℕ → List ℕ → List LaneReading → Bool
+reached_in by lanes rs = list_any (λ i. list_any (λ k. lists rs k i) lanes) by
+
+-- a definition reaches the reading of these lanes by these instructions: one of any lane counts
+abbrev pub reached_by : List ℕ → List ℕ → Definition → Bool
+reached_by by lanes d = reached_in by lanes d.reached.items
+
+-- the definition reaches the reading, of a range that is spilled so
+abbrev pub reaches_use : Spilling → Definition → RematUse → Bool
+reaches_use s d u = reached_by u.by.items (own_lanes s u.demand.index) d
+
+-- it reaches the reading, which isn't rematerialised
+abbrev pub needs_value : Spilling → Definition → RematUse → Bool
+needs_value s d u = reaches_use s d u && not (is_some u.source)
+
+-- the definition reaches a reading, and those that it reaches are all rematerialised
+abbrev pub is_only_repeated : Spilling → Definition → List RematUse → Bool
+is_only_repeated s d us = list_any (reaches_use s d) us && not (list_any (needs_value s d) us)
+
+-- the element of a list that has just one
+abbrev pub alone : {X : Type 0} → List X → Option X
+alone (x ∷ []) = Some x
+alone xs = None
+
+-- a reading that is listed is the definition's: it is by these instructions, of these lanes, and asks this
+pub record IsReading (s : Spilling) (r : Reading) (u : RematUse) : Type 0 where
+  pub by : (i : ℕ) → has i u.by.items ≡ has i (map (λ d. d.id) r.by)
+  pub lanes : r.lanes ≡ own_lanes s u.demand.index
+  pub wish : r.wish ≡ wish_of u.demand.wish
+
+-- the definitions are the instructions that touch the range, with all readings that they reach
+pub record AreDefinitions (t : Target) (f : Function) (x : Table) (v : ℕ) (ids : List ℕ) (ds : List Definition) : Type 0 where
+  pub touched : AreTouched x v ids
+  pub named : map (λ d. d.id) ds ≡ ids
+  pub told : Tests (λ (p : ℕ × ℕ × ℕ). Reaches t f v p.0 p.1 p.2) (told_by ds)
