@@ -212,7 +212,7 @@ module _ (s : Spilling) (g : Function) (z : IsSetting s g) (b c : Block) (i : In
         (copy_reading s i d o) first m known-reading plain
       where
         Reads-by : (a : Lane) → Writing (Silent [] ws) a → filled ws a ≡ Moved (range_source s j) → KeptAfter (is_reserved t) (code_before s) (Silent [] ws) p a → Reads (is_reserved t) (code_before s) (VirtualLane s.range j) (Silent [] ws) p
-        Reads-by a w h k = inr (a, w, inl h, k)
+        Reads-by a w h k = inr (a, inl w, inl h, k)
 
   -- a copy from the range to another register, by a reload
 

@@ -131,7 +131,7 @@ module _ (s : Spilling) (g : Function) (z : IsSetting s g) (b c : Block) (i : In
 
     stored-by : (ws : Writes) → item_of t f b i ≡ Silent [] ws → (j : ℕ) (a : Lane) → IsBeside s a → Member j ks → filled ws a ≡ Moved (range_source s j) → KeptAfter (is_reserved t) (code_before s) (Silent [] ws) p a → IsStored s j (Silent [] ws ∷ p)
     stored-by ws e j a beside q h k =
-        reading-stored s z.facts i (Silent [] ws) p (at.site.from ∙ ap (λ x. x ∷ p) e) j (inr (a, write-of ws a (written-away s ws a j beside h), inl h, k))
+        reading-stored s z.facts i (Silent [] ws) p (at.site.from ∙ ap (λ x. x ∷ p) e) j (inr (a, inl (write-of ws a (written-away s ws a j beside h)), inl h, k))
         (reading_of s (i ∷ []) o.index Never) first q known-reading (never o.index)
 
     store-through : (k : ℕ) (x : Operand) → slot ≡ operands.Stack k ∷ x ∷ [] → ChangeStands s g b c i p (through_tiny s n r i (moving_class s o.index) (in_own_slot s o.index) slot)
