@@ -1,3 +1,4 @@
+use Rattle.std.proofs.lemmas.Result.{IfOk-weaker}
 use Rattle.live_laws.proofs.Effects.Blocks.{member-slice}
 use Rattle.spiller.proofs.NothingRepeated.{tells-nothing}
 use Rattle.spiller.proofs.ReadingsListed.{finds}
@@ -12,3 +13,9 @@ returns-then-not-has_repeatable c = λ facts may are tell.
         let j = member-slice i b.instrs mi in
         c.has_repeatable.ensures c.if-not-has_repeatable.true (finds view may) p.0 j.0 b i p.1 j.1 h)
     c.no_remat.result c.no_remat.ensures.sources c.no_remat.ensures.deleted
+
+pub returns : goal.returns
+returns c =
+    IfOk-weaker c.plan_repeated.result _ _
+    (λ r h facts may are tell. h c.args.view.slot facts may are tell)
+    c.plan_repeated.ensures
