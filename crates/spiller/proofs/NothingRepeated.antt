@@ -34,7 +34,7 @@ is-false : (b : Bool) → (b ≡ true → ⊥) → b ≡ false
 is-false true n = absurd (n refl)
 is-false false n = refl
 
-none-serves : (t : Target) (wish : Wish) → serves t wish None ≡ false
+pub none-serves : (t : Target) (wish : Wish) → serves t wish None ≡ false
 none-serves t Never = refl
 none-serves t (Within None) = refl
 none-serves t (Within (Some c)) = refl

@@ -1,12 +1,13 @@
 -- The definitions that reach a reading are those at which it is listed, and so is what is repeated for it.
 use Rattle.std.proofs.Common.{◌≡◌, ◌∙◌, ℕ, Bool, true, false, cond, ◌&&◌, ◌||◌, List, [], ◌∷◌, Some, None, map, filter, flat_map, refl, sym, ap, subst, arith, eqb-true}
-use Rattle.std.specs.Prelude.{Decides, nat_eq, option_map, slice_get}
+use Rattle.std.specs.Prelude.{Decides, Option, nat_eq, option_map, slice_get}
 use Rattle.std.specs.List.{list_any}
 use Rattle.std.proofs.lemmas.Bool.{eq-eqb}
 use Rattle.target_base.specs.declared.types.Target.{Target}
 use Rattle.meaning.specs.Live.{Among as Member, here as first, there as later}
 use Rattle.mir_func.specs.declared.func.Instr.{Instr}
 use Rattle.mir_func.specs.declared.func.Block.{Block}
+use Rattle.mir_func.specs.Binding.{does}
 use Rattle.mir_func.specs.Value.{Function}
 use Rattle.mir_meaning.specs.Points.{touches}
 use Rattle.mir_meaning.specs.Paths.{has}
@@ -21,11 +22,12 @@ use Rattle.live_laws.proofs.Touch.Sequence.{Rise, rise-of, has-member, member-ha
 use Rattle.spiller.specs.declared.reaching.Definition.{Definition}
 use Rattle.spiller.specs.MaySpill.{MaySpill}
 use Rattle.spiller.specs.Reaching.{Facts, AreFacts}
-use Rattle.spiller.specs.Readings.{AreDefinitions, alone, reached_by}
-use Rattle.spiller.specs.Rematerialised.{Reading, if_serves, reaches, reaching, repeatable_class, repeated_for, serves}
+use Rattle.spiller.specs.Readings.{AreDefinitions, alone, reached_by, reached_by_constant}
+use Rattle.spiller.specs.Rematerialised.{Reading, if_serves, is_constant, reaches, reaching, repeatable_class, repeated_for, serves, whole_class}
 use Rattle.spiller.specs.Setting.{Spilling}
 use Rattle.spiller.specs.Walks.{lists, told_by}
-use Rattle.spiller.proofs.ReachesTold.{ids-are, unnamed}
+use Rattle.spiller.proofs.NothingRepeated.{none-serves}
+use Rattle.spiller.proofs.ReachesTold.{finds, ids-are, unnamed}
 
 -- tests and lists
 
@@ -215,3 +217,30 @@ module _ (t : Target) (f : Function) (x : Table) (v : ℕ) (may : MaySpill t f x
           served : (b : Bool) → d.id ≡ n → cond b (Some n) None ≡ option_map (λ (c : Instr). c.id) (cond b (Some d) None)
           served true e = ap Some (sym e)
           served false e = refl
+
+  -- nothing where no constant reaches it
+  pub unreached-repeated : (r : Reading) (by : List ℕ) → ((i : ℕ) → has i by ≡ has i (map (λ d. d.id) r.by)) → list_any (reached_by_constant by r.lanes) ds ≡ false → None ≡ option_map (λ (d : Instr). d.id) (repeated_for s r)
+  unreached-repeated r by same none = go (alone (map (λ (d : Definition). d.id) (filter (reached_by by r.lanes) ds))) refl
+    where
+      only : (n : ℕ) (es : List Definition) → alone (map (λ (d : Definition). d.id) es) ≡ Some n → (d : Definition) × Member d es × (d.id ≡ n)
+      only n [] h = absurd (cc)
+      only n (d ∷ []) h = (d, first, cc)
+      only n (d ∷ c ∷ es) h = absurd (cc)
+
+      flat : (d : Definition) → Member d ds → reached_by by r.lanes d ≡ true → (b : Bool) → d.is_constant ≡ b → b ≡ false
+      flat d m h false e = refl
+      flat d m h true e =
+          let both : (d.is_constant && reached_by by r.lanes d) ≡ true = ap (λ c. c && reached_by by r.lanes d) e ∙ h in
+          let z : false ≡ true = sym none ∙ any-in (reached_by_constant by r.lanes) d ds m both in
+          absurd (cc)
+
+      go : (o : Option ℕ) → alone (map (λ (d : Definition). d.id) (filter (reached_by by r.lanes) ds)) ≡ o → None ≡ option_map (λ (d : Instr). d.id) (repeated_for s r)
+      go None e = none-repeated r by same e
+      go (Some n) e =
+          let z = one-repeated r by n same e in
+          let y = only n (filter (reached_by by r.lanes) ds) e in
+          let m = filter-of (reached_by by r.lanes) y.0 ds y.1 in
+          let plain : does is_constant t z.instr ≡ false =
+              sym (are.constants y.0 m.0 (finds t f x v may ids are.touched).finds z.position z.spot z.block z.instr z.stands z.there (z.named ∙ sym y.2)) ∙ flat y.0 m.0 m.1 y.0.is_constant refl in
+          let no : repeatable_class t z.instr ≡ None = ap (λ b. cond b (whole_class t z.instr z.instr.operands) None) plain in
+          sym (ap (λ b. cond b (Some n) None) (ap (serves t r.wish) no ∙ none-serves t r.wish)) ∙ z.is

@@ -34,7 +34,7 @@ use Rattle.spiller.specs.Additions.{own_use, own_uses, seated_operands}
 use Rattle.spiller.specs.Listed.{AreKeyed, IsJudged, IsKeyed, IsToldBy, Keyed, Lists, TestsNeedless, ends_in, keyed_by, keyed_copy, keyed_effect, keyed_move, keyed_operands, keyed_readings, keyed_tied, keyed_way, told_sources}
 use Rattle.spiller.specs.Planned.{TellsRemat, copy_key, is_move_place, way_key}
 use Rattle.spiller.specs.Reaching.{AreFacts, Facts}
-use Rattle.spiller.specs.Readings.{AreDefinitions, IsReading, goes_in, same_key, source_in}
+use Rattle.spiller.specs.Readings.{AreDefinitions, IsReading, TellConstants, goes_in, same_key, source_in}
 use Rattle.spiller.specs.Rematerialised.{Reading, copy_reading, places_of, repeated_for, tied_readings, way_reading, ways_read}
 use Rattle.spiller.specs.Setting.{Spilling, is_own}
 use Rattle.spiller.specs.Spilled.{place_name}
@@ -229,13 +229,14 @@ module _ (view : SpillView) (may : MaySpill view.target.now view.live.now.func v
   }
 
 pub plan-tells : (view : SpillView) (ids : List ℕ) (ds : List Definition) (us : List RematUse) (r : Remat) → map (λ d. d.id) ds ≡ ids → IsToldBy view ids ds
+    → TellConstants view.target.now view.live.now.func view.live.now.table ds
     → (MaySpill view.target.now view.live.now.func view.live.now.table view.v → AreTouched view.live.now.table view.v ids → Lists view ds (keyed_by view ids) [] us)
     → r.sources.items ≡ flat_map told_sources us
     → ((slot : ℕ) (facts : Facts) (test : ℕ → Bool) → FindsInstrs view.live.now.table view.live.now.func.blocks → TestsNeedless (spilling_of view slot facts) ds us test → r.deleted.items ≡ filter test (map (λ d. d.id) ds))
     → (slot : ℕ) (facts : Facts) → MaySpill view.target.now view.live.now.func view.live.now.table view.v → AreTouched view.live.now.table view.v ids → AreFacts view.target.now view.live.now.func view.v facts → TellsRemat (spilling_of view slot facts) (source_in r) (goes_in r)
-plan-tells view ids ds us r named told listed sources deleted slot facts may are tell =
+plan-tells view ids ds us r named told constants listed sources deleted slot facts may are tell =
     let s = spilling_of view slot facts in
-    let ts : AreDefinitions view.target.now view.live.now.func view.live.now.table view.v ids ds = record { touched = are; named = named; told = told may are } in
+    let ts : AreDefinitions view.target.now view.live.now.func view.live.now.table view.v ids ds = record { touched = are; named = named; told = told may are; constants = constants } in
     let h = listed may are in
     let keyed = subst (AreKeyed s (keyed_by view ids s)) (sym h.grown) (h.keyed slot facts) in
     let judged = subst (AllByRecursion (IsJudged view ds)) (sym h.grown) h.judged in

@@ -1,5 +1,5 @@
 -- What is planned to be rematerialised, as the definition's words name it.
-use Rattle.std.specs.Prelude.{◌≡◌, map, is_some, not, ℕ, Bool, true, false, ◌&&◌, nat_eq, find, List, [], ◌∷◌, Option, Some, None, option_map}
+use Rattle.std.specs.Prelude.{◌≡◌, map, is_some, not, ℕ, Bool, true, false, ◌&&◌, nat_eq, slice_get, find, List, [], ◌∷◌, Option, Some, None, option_map}
 use Rattle.std.specs.List.{list_any}
 use Rattle.mir_meaning.specs.Paths.{has}
 use Rattle.spiller.specs.declared.reaching.Definition.{Definition}
@@ -8,12 +8,16 @@ use Rattle.spiller.specs.declared.remat.Remat.{Remat}
 use Rattle.spiller.specs.declared.remat.RematUse.{RematUse}
 use Rattle.spiller.specs.declared.remat.UseKey.{UseKey}
 use Rattle.target_base.specs.declared.types.Target.{Target}
+use Rattle.meaning.specs.Live.{Among as Member}
+use Rattle.mir_func.specs.declared.func.Block.{Block}
+use Rattle.mir_func.specs.declared.func.Instr.{Instr}
+use Rattle.mir_func.specs.Binding.{does}
 use Rattle.mir_func.specs.Value.{Function}
 use Rattle.mir_meaning.specs.Points.{Tests}
 use Rattle.live_lanes.specs.declared.table.Table.{Table}
-use Rattle.live_lanes.specs.Touching.{AreTouched}
+use Rattle.live_lanes.specs.Touching.{AreTouched, FindsInstrs}
 use Rattle.spiller.specs.Reaching.{Reaches}
-use Rattle.spiller.specs.Rematerialised.{Reading}
+use Rattle.spiller.specs.Rematerialised.{Reading, is_constant}
 use Rattle.spiller.specs.Setting.{Spilling, own_lanes}
 use Rattle.spiller.specs.declared.roles.IndexedClass.{IndexedClass}
 use Rattle.spiller.specs.Views.{same_way, wish_of}
@@ -68,8 +72,20 @@ pub record IsReading (s : Spilling) (r : Reading) (u : RematUse) : Type 0 where
   pub lanes : r.lanes ≡ own_lanes s u.demand.index
   pub wish : r.wish ≡ wish_of u.demand.wish
 
+-- it is told whether the definition's instruction is a constant or an address
+abbrev pub TellsConstant : Target → Function → Table → Definition → Type 0
+TellsConstant t f x d = FindsInstrs x f.blocks → (p j : ℕ) (b : Block) (i : Instr) → slice_get f.blocks p ≡ Some b → slice_get b.instrs j ≡ Some i → i.id ≡ d.id → d.is_constant ≡ does is_constant t i
+
+abbrev pub TellConstants : Target → Function → Table → List Definition → Type 0
+TellConstants t f x ds = (d : Definition) → Member d ds → TellsConstant t f x d
+
+-- a definition of a constant or an address reaches the reading
+abbrev pub reached_by_constant : List ℕ → List ℕ → Definition → Bool
+reached_by_constant by lanes d = d.is_constant && reached_by by lanes d
+
 -- the definitions are the instructions that touch the range, with all readings that they reach
 pub record AreDefinitions (t : Target) (f : Function) (x : Table) (v : ℕ) (ids : List ℕ) (ds : List Definition) : Type 0 where
   pub touched : AreTouched x v ids
   pub named : map (λ d. d.id) ds ≡ ids
   pub told : Tests (λ (p : ℕ × ℕ × ℕ). Reaches t f v p.0 p.1 p.2) (told_by ds)
+  pub constants : TellConstants t f x ds

@@ -10,9 +10,11 @@ ghost use Rattle.live_lanes.specs.Touching.{AreTouched};
 ghost use Rattle.mir_meaning.specs.Points.{Tests};
 ghost use Rattle.spiller.specs.MaySpill.{MaySpill};
 ghost use Rattle.spiller.specs.Reaching.{Reaches};
+ghost use Rattle.spiller.specs.Readings.{TellConstants, TellsConstant};
 ghost use Rattle.spiller.specs.Walks.{touch_of, touches_at, touches_in, dead_at, seen, keeps, rest_behind, Spreads, Enters, reached_at, AddsTouch, IsFlow, HasFlows, AddsSeen, FlowsTo, ListsFlows, lists, told_by};
 
 use crate::plan::SpillView;
+use crate::remat::is_repeatable_id;
 use std::alloc::{AllocError, Global};
 
 /// What an instruction does to a lane of the range.
@@ -54,6 +56,8 @@ pub(crate) struct LaneReading {
 #[derive(Drop)]
 pub(crate) struct Definition {
     pub id: u32,
+    /// Whether the instruction is a constant or an address, which alone is repeated.
+    pub is_constant: bool,
     pub reached: Vec<LaneReading>,
 }
 
@@ -305,13 +309,18 @@ fn add_definition(
 /// What the definitions of lanes by an instruction reach.
 fn definition_of(view: SpillView<'_>, flows: &[LaneFlow], id: u32) -> Result<Definition, AllocError>
     ensures id { IfOk result (λ d. d.id ≡ id) }
+    ensures constant { IfOk result (λ d. TellsConstant view.entry.target.now view.entry.live.now.func view.entry.live.now.table d) }
     ensures reached { InOrder view.entry.live.now.table → IfOk result (ListsFlows view.entry.live.now.table view.entry.v flows.now) }
 {
     let mut reached = Vec::new(view.alloc);
     'flows: for flow in flows {
         add_definition(view, flow, id, &mut reached)?;
     }
-    Ok(Definition { id, reached })
+    Ok(Definition {
+        id,
+        is_constant: is_repeatable_id(view, id),
+        reached,
+    })
 }
 
 /// How each lane of the range flows.
@@ -331,6 +340,7 @@ pub(crate) fn definitions_of(
     touched: &[u32],
 ) -> Result<Vec<Definition>, AllocError>
     ensures ids { IfOk result (λ ds. map (λ d. d.id) ds.items ≡ touched.now) }
+    ensures constants { IfOk result (λ ds. TellConstants view.entry.target.now view.entry.live.now.func view.entry.live.now.table ds.items) }
     ensures told { IfOk result (λ ds. MaySpill view.entry.target.now view.entry.live.now.func view.entry.live.now.table view.entry.v → AreTouched view.entry.live.now.table view.entry.v touched.now → Tests (λ (p : ℕ × ℕ × ℕ). Reaches view.entry.target.now view.entry.live.now.func view.entry.v p.0 p.1 p.2) (told_by ds.items)) }
 {
     let flows = flows_of(view, touched)?;

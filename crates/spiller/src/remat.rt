@@ -17,7 +17,7 @@ ghost use Rattle.spiller.specs.Listed.{IsToldBy, Lists, ListsOne, TestsNeedless,
 ghost use Rattle.spiller.specs.Placing.{IsPlainForm};
 ghost use Rattle.spiller.specs.Planned.{TellsRemat, copy_key, way_key};
 ghost use Rattle.spiller.specs.Reaching.{Facts, AreFacts};
-ghost use Rattle.spiller.specs.Readings.{same_ways, same_key, source_in, goes_in, reached_in, reached_by, reaches_use, needs_value, is_only_repeated, alone, IsReading, AreDefinitions};
+ghost use Rattle.spiller.specs.Readings.{same_ways, same_key, source_in, goes_in, reached_in, reached_by, reaches_use, needs_value, is_only_repeated, alone, reached_by_constant, IsReading, AreDefinitions, TellConstants};
 ghost use Rattle.spiller.specs.Rematerialised.{is_constant, definition_class, whole_class, repeatable_class, serves, if_whole, copy_wish, Within, Reading, repeated_for};
 ghost use Rattle.spiller.specs.Setting.{is_own, own_lanes};
 ghost use Rattle.spiller.specs.Views.{spilling_of, wish_of, way_of};
@@ -192,7 +192,7 @@ fn remat_for(
     touched: &[u32],
     definitions: &[Definition],
 ) -> Result<Remat, AllocError>
-    ensures { IfOk result (λ r. map (λ d. d.id) definitions.now ≡ touched.now → IsToldBy view.entry touched.now definitions.now → (slot : ℕ) (facts : Facts) → MaySpill view.entry.target.now view.entry.live.now.func view.entry.live.now.table view.entry.v → AreTouched view.entry.live.now.table view.entry.v touched.now
+    ensures { IfOk result (λ r. map (λ d. d.id) definitions.now ≡ touched.now → IsToldBy view.entry touched.now definitions.now → TellConstants view.entry.target.now view.entry.live.now.func view.entry.live.now.table definitions.now → (slot : ℕ) (facts : Facts) → MaySpill view.entry.target.now view.entry.live.now.func view.entry.live.now.table view.entry.v → AreTouched view.entry.live.now.table view.entry.v touched.now
         → AreFacts view.entry.target.now view.entry.live.now.func view.entry.v facts → TellsRemat (spilling_of view.entry slot facts) (source_in r) (goes_in r)) }
 {
     let readings = readings_of(view, definitions, touched)?;
@@ -808,8 +808,8 @@ fn has_id(ids: &[u32], id: u32) -> bool
 fn is_part(view: SpillView<'_>, reading: &RematUse, reached: LaneReading) -> bool
     ensures { (slot : ℕ) (facts : Facts) → result ≡ (has reached.lane (own_lanes (spilling_of view.entry slot facts) reading.now.demand.index) && has reached.by reading.now.by.items) }
 {
-    picks_lane(view, reading.demand.index, reached.lane)
-        && has_id(reading.by.as_slice(), reached.by)
+    has_id(reading.by.as_slice(), reached.by)
+        && picks_lane(view, reading.demand.index, reached.lane)
 }
 
 /// Whether a definition reaches a reading: at one of its instructions, of one of its lanes.
@@ -863,12 +863,31 @@ fn id_serves(view: SpillView<'_>, wish: RematConstraint, id: u32) -> bool
     }
 }
 
+/// Whether a constant or an address reaches a reading: else nothing is repeated for it.
+fn is_reached_by_constant(
+    view: SpillView<'_>,
+    definitions: &[Definition],
+    reading: &RematUse,
+) -> bool
+    ensures { (slot : ℕ) (facts : Facts) → result ≡ list_any (reached_by_constant reading.now.by.items (own_lanes (spilling_of view.entry slot facts) reading.now.demand.index)) definitions.now }
+{
+    'definitions: for definition in definitions {
+        if definition.is_constant && reaches(view, definition, reading) {
+            return true;
+        }
+    }
+    false
+}
+
 /// The definition whose instruction is repeated for a reading.
 fn source_of(view: SpillView<'_>, definitions: &[Definition], reading: &RematUse) -> Option<u32>
     ensures { (slot : ℕ) (facts : Facts) (r : Reading) (ids : List ℕ)
         → MaySpill view.entry.target.now view.entry.live.now.func view.entry.live.now.table view.entry.v → AreDefinitions view.entry.target.now view.entry.live.now.func view.entry.live.now.table view.entry.v ids definitions.now
         → AreFacts view.entry.target.now view.entry.live.now.func view.entry.v facts → IsReading (spilling_of view.entry slot facts) r reading.now → result ≡ option_map (λ d. d.id) (repeated_for (spilling_of view.entry slot facts) r) }
 {
+    if !is_reached_by_constant(view, definitions, reading) {
+        return None;
+    }
     match only_definition(view, definitions, reading) {
         None => None,
         Some(id) => {
@@ -1027,10 +1046,11 @@ fn is_needed(view: SpillView<'_>, definition: &Definition, readings: &[RematUse]
 fn needs_value(view: SpillView<'_>, definition: &Definition, reading: &RematUse) -> bool
     ensures { (slot : ℕ) (facts : Facts) → result ≡ needs_value (spilling_of view.entry slot facts) definition.now reading.now }
 {
-    reaches(view, definition, reading) && !reading.source.is_some()
+    !reading.source.is_some() && reaches(view, definition, reading)
 }
 
-fn is_repeatable_id(view: SpillView<'_>, id: u32) -> bool
+/// Whether an instruction, by its id, can be repeated.
+pub(crate) fn is_repeatable_id(view: SpillView<'_>, id: u32) -> bool
     ensures { FindsInstrs view.entry.live.now.table view.entry.live.now.func.blocks → (p j : ℕ) (b : Block) (i : Instr) → slice_get view.entry.live.now.func.blocks p ≡ Some b → slice_get b.instrs j ≡ Some i → i.id ≡ id
         → result ≡ does is_constant view.entry.target.now i }
 {

@@ -22,3 +22,6 @@ returns-clause-reached c =
     let flows = c.args.flows.now in
     let all : take c.flows.flow-index flows ≡ flows = take_all c.flows.flow-index flows (omega arith) in
     λ ordered. (subst (λ fs. ListsSome c.args.view.live.now.table c.args.view.v fs c.args.id c.flows.reached.items) all (c.flows.invariant ordered)).just
+
+pub returns-clause-constant : goal.returns-clause-constant
+returns-clause-constant c = λ finds p j b i stands there same. c.is_repeatable_id.ensures finds p j b i stands there same

@@ -13,7 +13,7 @@ returns c =
     let us = c.in_ok-readings.readings.items in
     let same = c.as_slice.ensures.value in
     ok-both c.remat_of.result _ _ _
-    (λ r sources deleted named told. plan-tells view c.args.touched.now ds us r named told c.in_ok-readings.ensures
+    (λ r sources deleted named told constants. plan-tells view c.args.touched.now ds us r named told constants c.in_ok-readings.ensures
     (sources ∙ ap (flat_map told_sources) same)
     (λ slot facts test finds all. deleted slot facts test finds (subst (λ (ws : List RematUse). TestsNeedless (spilling_of view slot facts) ds ws test) (sym same) all)))
     c.remat_of.ensures.sources c.remat_of.ensures.deleted
