@@ -118,7 +118,7 @@ module _ (s : Spilling) (z : IsSetting s (spilled s)) (b c : Block) (i : Instr) 
     read-before : (k j : ℕ) → is_one ds k ≡ true → Member j os → source_at ds (map (from-own s) os) k ≡ from-own s j → LiveHere s p (VirtualLane s.range k) → LiveHere s (Silent [] given ∷ p) (VirtualLane s.range j) × IsStored s j (Silent [] given ∷ p)
     read-before k j e m h live =
         let fill : filled given (VirtualLane s.range k) ≡ Moved (from-own s j) = range-given s.range false ds (map (from-own s) os) k long e ∙ ap Moved h in
-        let reads : Reads (is_reserved t) (code_before s) (VirtualLane s.range j) (Silent [] given) p = inr (VirtualLane s.range k, written k e, inl fill, inl (after_next refl live)) in
+        let reads : Reads (is_reserved t) (code_before s) (VirtualLane s.range j) (Silent [] given) p = inr (VirtualLane s.range k, inl (written k e), inl fill, inl (after_next refl live)) in
         (next refl live fill refl, reading-stored s z.facts i (Silent [] given) p (at.site.from ∙ ap (λ x. x ∷ p) within-item) j reads (copy_reading s i d o) first m (known-reading s g z b c i p at d o known are from) unrepeated)
 
     pub vanished-kept : ds ≡ os → KeptAs s z b c i p at phi []

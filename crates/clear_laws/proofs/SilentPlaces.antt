@@ -216,7 +216,7 @@ module _ (s : Spilling) (z : IsSetting s (spilled s)) (b c : Block) (i : Instr) 
           reading-stored s z.facts i (Silent [] copies) p (at.site.from ∙ ap (λ x. x ∷ p) out-item) j (by a w h k) (copy_reading s i d o) first m (known-reading s g z b c i p at d o known are own) plain
         where
           by : (a : Lane) → Writing (Silent [] copies) a → filled copies a ≡ Moved (from-own s j) → KeptAfter (is_reserved t) (code_before s) (Silent [] copies) p a → Reads (is_reserved t) (code_before s) (VirtualLane s.range j) (Silent [] copies) p
-          by a w h k = inr (a, w, inl h, k)
+          by a w h k = inr (a, inl w, inl h, k)
 
       module _ (other : is_own s d ≡ false) where
         others : (a : Lane) → Member a ls → IsBeside s a

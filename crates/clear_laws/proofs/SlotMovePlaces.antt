@@ -153,7 +153,7 @@ module _ (s : Spilling) (z : IsSetting s (spilled s)) (b c : Block) (i : Instr) 
         reading-stored s z.facts i (Silent [] out) p (at.site.from ∙ ap (λ u. u ∷ p) store-item-is) j reads (reading_of s (i ∷ []) o.index Never) first mj known-reading never
       where
         reads : Reads (is_reserved t) (code_before s) (VirtualLane s.range j) (Silent [] out) p
-        reads = inr (a, wr, inr (n, q, w, y, e, fed, refl, refl), inl (after_next refl live))
+        reads = inr (a, inl wr, inr (n, q, w, y, e, fed, refl, refl), inl (after_next refl live))
 
     pub stored-on-kept : (r n : ℕ) → length f.classes ≤ r → class_of g r ≡ moving_class s o.index → ((n q u : ℕ) → LiveHere s p (SlotLane n q u) → is-wide s u)
         → KeptAs s z b c i p at phi (in_place_of i (reload t (moving_class s o.index) (plain_definition (Virtual r) None) (in_own_slot s o.index)) ∷ record (store t (moving_class s o.index) (plain_use (Virtual r) None) (operands.Stack k ∷ x ∷ [])) { id = n } ∷ [])
@@ -215,7 +215,7 @@ module _ (s : Spilling) (z : IsSetting s (spilled s)) (b c : Block) (i : Instr) 
                 (λ u live. inr (
                   live-stored (width s q) refl live (keeping-fill q (one-of ks q inside)) refl refl,
                   reading-stored s z.facts i (Silent [] keeping) p (at.site.from ∙ ap (λ v. v ∷ p) keeping-item) q
-                      (inr (SlotLane s.slot q u, again q u inside (live-wide s.slot q u live), inr (s.slot, q, width s q, u, refl, keeping-fill q (one-of ks q inside), refl, refl), inl (after_next refl live)))
+                      (inr (SlotLane s.slot q u, inl (again q u inside (live-wide s.slot q u live)), inr (s.slot, q, width s q, u, refl, keeping-fill q (one-of ks q inside), refl, refl), inl (after_next refl live)))
                       (reading_of s (i ∷ []) o.index Never) first inside known-reading never,
                 )),
               )

@@ -16,7 +16,7 @@ use Rattle.live_lanes.specs.declared.row.Cell.{Cell}
 use Rattle.live_lanes.specs.declared.table.Table.{Table}
 use Rattle.live_lanes.specs.Table.{Numbers}
 use Rattle.live_lanes.specs.Entered.{piece_count}
-use Rattle.live_lanes.specs.Extents.{extent_in, stretch_of}
+use Rattle.live_lanes.specs.Extents.{cell_extents, extent_in, stretch_of}
 use Rattle.live_lanes.proofs.Cells.{both, both-left, both-right}
 use Rattle.live_lanes.proofs.Held.{or-left, or-right}
 use Rattle.live_lanes.proofs.Extents.{any-in}
@@ -207,12 +207,16 @@ step-marked m v w rest xs more old new total e is was =
     turn true false c = refl
     turn false b c = refl
 
-pub end-marked : (m : Matrix) (v w : ℕ) (rest : List Points) (old total : Bool) → rest ≡ [] → (are_taken m v rest w || old) ≡ total → old ≡ total
-end-marked m v w rest old total e was = sym (ap (λ b. b || old) (ap (λ ps. are_taken m v ps w) e ∙ and-false (not (nat_eq w v)))) ∙ was
+-- no range is in the way at no points
+pub clear-none : (m : Matrix) (v w : ℕ) → are_taken m v [] w ≡ false
+clear-none m v w = go (not (nat_eq w v))
   where
-    and-false : (b : Bool) → (b && false) ≡ false
-    and-false true = refl
-    and-false false = refl
+    go : (b : Bool) → (b && false) ≡ false
+    go true = refl
+    go false = refl
+
+pub end-marked : (m : Matrix) (v w : ℕ) (rest : List Points) (old total : Bool) → rest ≡ [] → (are_taken m v rest w || old) ≡ total → old ≡ total
+end-marked m v w rest old total e was = sym (ap (λ b. b || old) (ap (λ ps. are_taken m v ps w) e ∙ clear-none m v w)) ∙ was
 
 pub one-taken : (m : Matrix) (v w : ℕ) (s : Points) → are_taken m v (s ∷ []) w ≡ (not (nat_eq w v) && is_taken_at m w s)
 one-taken m v w s = ap (λ b. not (nat_eq w v) && b) (one-of (is_taken_at m w) s)
@@ -220,8 +224,34 @@ one-taken m v w s = ap (λ b. not (nat_eq w v) && b) (one-of (is_taken_at m w) s
 pub step-way : (m : Matrix) (v w : ℕ) (rest xs more : List Points) → rest ≡ xs ++ more → are_taken m v xs w ≡ true → are_taken m v rest w ≡ true
 step-way m v w rest xs more e h = ap (λ ps. are_taken m v ps w) e ∙ taken-append m v xs more w ∙ or-left (are_taken m v xs w) (are_taken m v more w) h
 
-pub more-way : (m : Matrix) (v w : ℕ) (rest xs more : List Points) → rest ≡ xs ++ more → are_taken m v more w ≡ true → are_taken m v rest w ≡ true
-more-way m v w rest xs more e h = ap (λ ps. are_taken m v ps w) e ∙ taken-append m v xs more w ∙ or-right (are_taken m v xs w) (are_taken m v more w) h
+pub clear-way : (m : Matrix) (v w : ℕ) (rest xs more : List Points) → rest ≡ xs ++ more → are_taken m v xs w ≡ false → are_taken m v rest w ≡ are_taken m v more w
+clear-way m v w rest xs more e h = ap (λ ps. are_taken m v ps w) e ∙ taken-append m v xs more w ∙ ap (λ b. b || are_taken m v more w) h
+
+-- where no other range holds any of the points, none is in the way there
+pub clear-point : (m : Matrix) (v w : ℕ) (s : Points) → is_taken m.live.table.order.slots (holds m s.unit s.block) v s.at ≡ false → are_taken m v (s ∷ []) w ≡ false
+clear-point m v w s e = go (are_taken m v (s ∷ []) w) refl
+  where
+    go : (u : Bool) → are_taken m v (s ∷ []) w ≡ u → are_taken m v (s ∷ []) w ≡ false
+    go false h = h
+    go true h = absurd (
+        let p : (not (nat_eq w v) && is_taken_at m w s) ≡ true = sym (one-taken m v w s) ∙ h in
+        let some = by-taken m.live.table.order.slots (holds m s.unit s.block) v w s.at (from-not (nat_eq w v) (both-left (not (nat_eq w v)) (is_taken_at m w s) p)) (both-right (not (nat_eq w v)) (is_taken_at m w s) p) in
+        cc)
+
+none-listed : (m : Matrix) (w u b : ℕ) → holds m u b ≡ [] → (xs : List Extent) → list_any (is_taken_at m w) (map (point_of m.live.table.order.slots u b) xs) ≡ false
+none-listed m w u b e [] = refl
+none-listed m w u b e (x ∷ xs) = ap (λ hs. is_taken_by m.live.table.order.slots hs w (stretch_of m.live.table.order.slots x) || list_any (is_taken_at m w) (map (point_of m.live.table.order.slots u b) xs)) e ∙ none-listed m w u b e xs
+
+-- none is where the unit has no list in the block
+pub clear-cell : (m : Matrix) (v w u b : ℕ) (o : Option Cell) → Some b ≡ option_map (λ (c : Cell). c.block) o → None ≡ list_in m.held u b → are_taken m v (some_cell_points m.live.table.order.slots u o) w ≡ false
+clear-cell m v w u b None at none = absurd (cc)
+clear-cell m v w u b (Some c) at none =
+    let same : b ≡ c.block = cc in
+    ap (λ x. not (nat_eq w v) && x) (none-listed m w u c.block (sym (ap held_of_some (none ∙ ap (list_in m.held u) same))) (cell_extents c)) ∙ clear-none m v w
+
+pub clear-no_cell : (m : Matrix) (v w u : ℕ) (o : Option Cell) → None ≡ option_map (λ (c : Cell). c.block) o → are_taken m v (some_cell_points m.live.table.order.slots u o) w ≡ false
+clear-no_cell m v w u None e = clear-none m v w
+clear-no_cell m v w u (Some c) e = absurd (cc)
 
 -- some other range is found where there is one
 pub other-meets : (ns : Numbers) (hs : List RangeExtent) (but : ℕ) (at : Stretch) (o : Option ℕ) → MatchOption o (is_taken ns hs but at ≡ false) (λ w. (nat_eq w but ≡ false) × (is_taken_by ns hs w at ≡ true)) → is_some o ≡ is_taken ns hs but at

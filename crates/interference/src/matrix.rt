@@ -1,6 +1,6 @@
 //! The matrix: a function, the register of each assigned range, and what the ranges hold.
 
-ghost use Rattle.std.specs.Prelude.{◌≡◌, ◌<◌, ◌≤◌, ◌*◌, ◌++◌, ◌∷◌, ◌^◌, [], ℕ, true, false, cond, not, ◌&&◌, ◌||◌, nat_eq, length, IfOk, OnOk, OnErr, IfSome, slice_get, slice_set, slice_index, Some, None};
+ghost use Rattle.std.specs.Prelude.{◌≡◌, ◌<◌, ◌≤◌, ◌*◌, ◌++◌, ◌∷◌, ◌^◌, [], ℕ, true, false, cond, not, ◌&&◌, ◌||◌, nat_eq, length, IfOk, OnOk, OnErr, MatchOption, slice_get, slice_set, slice_index, Some, None};
 ghost use Rattle.std.specs.List.{list_any};
 ghost use Rattle.std.specs.Ordering.{nat_cmp};
 ghost use Rattle.std.specs.BTreeMap.{get};
@@ -224,7 +224,7 @@ impl Matrix {
     /// One of the ranges that a range in a register would clash with, found sooner than all of them.
     /// None where it would clash with none.
     pub fn some_clasher(&self, v: u32, p: Reg) -> Option<u32>
-        ensures { IsOrdered self.now → IfSome result (λ w. is_in_way self.now v p w ≡ true) }
+        ensures { IsOrdered self.now → MatchOption result ((w : ℕ) → is_in_way self.now v p w ≡ false) (λ w. is_in_way self.now v p w ≡ true) }
     {
         let mut k = 0usize;
         'units: for u in self.live.target().units_at(p) {
@@ -237,7 +237,8 @@ impl Matrix {
     }
 
     fn clasher_of_lane(&self, v: u32, k: usize, unit: u32) -> Option<u32>
-        ensures { IsOrdered self.now → IfSome result (λ w. are_taken self.now v (lane_points self.now.live.table unit (number_in self.now.live.table.lanes (owners.Range v k))) w ≡ true) }
+        ensures { IsOrdered self.now → MatchOption result ((w : ℕ) → are_taken self.now v (lane_points self.now.live.table unit (number_in self.now.live.table.lanes (owners.Range v k))) w ≡ false)
+            (λ w. are_taken self.now v (lane_points self.now.live.table unit (number_in self.now.live.table.lanes (owners.Range v k))) w ≡ true) }
     {
         let lane = self.live.lane_of(v, k)?;
         'cells: for place in 0..self.live.cell_count(lane) {
@@ -249,7 +250,8 @@ impl Matrix {
     }
 
     fn clasher_in_cell(&self, v: u32, unit: u32, lane: u32, place: usize) -> Option<u32>
-        ensures { IsOrdered self.now → IfSome result (λ w. are_taken self.now v (some_cell_points self.now.live.table.order.slots unit (slice_get (cells_of self.now.live.table.rows.rows.items lane) place)) w ≡ true) }
+        ensures { IsOrdered self.now → MatchOption result ((w : ℕ) → are_taken self.now v (some_cell_points self.now.live.table.order.slots unit (slice_get (cells_of self.now.live.table.rows.rows.items lane) place)) w ≡ false)
+            (λ w. are_taken self.now v (some_cell_points self.now.live.table.order.slots unit (slice_get (cells_of self.now.live.table.rows.rows.items lane) place)) w ≡ true) }
     {
         let block = self.live.cell_block(lane, place)?;
         let list = self.held.list(unit, block)?;

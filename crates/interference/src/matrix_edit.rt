@@ -127,6 +127,7 @@ impl Matrix {
         ensures kept { OnOk result (MayBeEditedLive self.old.live (edits_of edits.items) → KeepsLists self.old → StandsClear self.new → KeepsLists self.new) }
         ensures refused { OnErr result (MayBeEditedLive self.old.live (edits_of edits.items) → KeepsLists self.old → KeepsLists self.new) }
         ensures registers { self.new.registers ≡ self.old.registers }
+        ensures target { self.new.live.target ≡ self.old.live.target }
     {
         let unheld = self.without_register(v);
         let changes = begin_edits(&mut self.live, edits, unheld)?;
@@ -151,6 +152,7 @@ impl Matrix {
         ensures kept { OnOk result ((edits : List Edit) (before : LiveFunc) → IsBegun (edits_of edits) before self.old.live changes → StandsKept (record self.old { live = before }) → TellsHeld self.old before changes.pieces.items → StandsClear self.new → KeepsLists self.new) }
         ensures refused { OnErr result ((edits : List Edit) (before : LiveFunc) → IsBegun (edits_of edits) before self.old.live changes → StandsKept (record self.old { live = before }) → TellsHeld self.old before changes.pieces.items → KeepsLists self.new) }
         ensures registers { self.new.registers ≡ self.old.registers }
+        ensures target { self.new.live.target ≡ self.old.live.target }
     {
         match self.held_pieces(&changes) {
             Ok(pieces) => self.commit_pieces(changes, pieces),
@@ -172,6 +174,7 @@ impl Matrix {
         ensures kept { OnOk result ((edits : List Edit) (before : LiveFunc) → IsBegun (edits_of edits) before self.old.live changes → StandsKept (record self.old { live = before }) → TellsHeld self.old before changes.pieces.items → (IsTable self.old.live.table.lanes → AreHeldPieces self.old changes.pieces.items pieces.items) → StandsClear self.new → KeepsLists self.new) }
         ensures refused { OnErr result ((edits : List Edit) (before : LiveFunc) → IsBegun (edits_of edits) before self.old.live changes → StandsKept (record self.old { live = before }) → TellsHeld self.old before changes.pieces.items → KeepsLists self.new) }
         ensures registers { self.new.registers ≡ self.old.registers }
+        ensures target { self.new.live.target ≡ self.old.live.target }
     {
         let mut log = Vec::new(self.alloc);
         match self

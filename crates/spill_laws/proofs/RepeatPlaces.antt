@@ -182,7 +182,7 @@ repeats_stand s g b c i x p d o z at known are other own is =
     (λ a m. (other-beside s d.loc d.index other (class-d s g z b c i p at d o known are) a m).other) (λ a m. unslotted s s.func d.loc d.index a m)
     (source_at (own_lanes s None) (gives s g z r x is))
     (λ j a beside m e kept. inr (is-repeated s g z r x is j m (Silent [] copies ∷ p)
-    (λ n brought. reading-repeated s z.facts i (Silent [] copies) p (at.site.from ∙ ap (λ y. y ∷ p) first-item) j (inr (a, write-of copies a (written-away s copies a j beside e), inl e, kept)) r first (subst (λ y. Member j (own_lanes s y)) (sym index) m) x is n brought))))))
+    (λ n brought. reading-repeated s z.facts i (Silent [] copies) p (at.site.from ∙ ap (λ y. y ∷ p) first-item) j (inr (a, inl (write-of copies a (written-away s copies a j beside e)), inl e, kept)) r first (subst (λ y. Member j (own_lanes s y)) (sym index) m) x is n brought))))))
   where
     r : Reading
     r = copy_reading s i d o
