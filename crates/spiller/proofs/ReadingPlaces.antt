@@ -72,9 +72,9 @@ module _ (t : Target) where
       go false e q n more =
           member-elim p (j ∷ []) (places_from t is)
           (λ h.
-              member-elim i j []
-              (λ same. let none : ends i ≡ false = ap ends same ∙ e in h ∙ (ap (λ x. x ∷ []) (sym same) ∙ sym (ap (λ b. cond b (ends_in t is) (i ∷ [])) none)))
-              (λ w. absurd (member-none i w)) (subst (Member i) h k))
+          member-elim i j []
+          (λ same. let none : ends i ≡ false = ap ends same ∙ e in h ∙ (ap (λ x. x ∷ []) (sym same) ∙ sym (ap (λ b. cond b (ends_in t is) (i ∷ [])) none)))
+          (λ w. absurd (member-none i w)) (subst (Member i) h k))
           (more q) n
 
   -- which is a place
@@ -144,9 +144,10 @@ turn false e = refl
 copy-form : (os : List Operand) → copy_fits os ≡ true → (implicit_last os ≡ true) × AreFixed os
 copy-form (operands.Reg d ∷ operands.Reg o ∷ []) h =
     let a : d.implicit ≡ false = turn d.implicit (second_of_both d.def (not d.implicit) (first_of_both (d.def && not d.implicit) (not o.def && not o.implicit) h)) in
-    let c : o.implicit ≡ false = turn o.implicit (second_of_both (not o.def) (not o.implicit) (second_of_both (d.def && not d.implicit) (not o.def && not o.implicit) h)) in
-    ((λ k. cond (a k) (o.implicit && true) (cond (c k) true true)),
-    (λ k. list_all (λ (x : RegOp). not (is_virtual x.loc)) (cond (a k) (d ∷ cond (c k) (o ∷ []) []) (cond (c k) (o ∷ []) []))))
+    let c : o.implicit ≡ false = turn o.implicit (second_of_both (not o.def) (not o.implicit) (second_of_both (d.def && not d.implicit) (not o.def && not o.implicit) h)) in (
+      (λ k. cond (a k) (o.implicit && true) (cond (c k) true true)),
+      (λ k. list_all (λ (x : RegOp). not (is_virtual x.loc)) (cond (a k) (d ∷ cond (c k) (o ∷ []) []) (cond (c k) (o ∷ []) []))),
+    )
 copy-form os h = absurd (cc)
 
 undefined-form : (os : List Operand) → implicit_def_fits os ≡ true → (implicit_last os ≡ true) × AreFixed os

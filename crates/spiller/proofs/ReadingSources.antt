@@ -241,6 +241,6 @@ module _ (t : Target) (f : Function) (x : Table) (v : ℕ) (may : MaySpill t f x
           let y = only n (filter (reached_by by r.lanes) ds) e in
           let m = filter-of (reached_by by r.lanes) y.0 ds y.1 in
           let plain : does is_constant t z.instr ≡ false =
-              sym (are.constants y.0 m.0 (finds t f x v may ids are.touched).finds z.position z.spot z.block z.instr z.stands z.there (z.named ∙ sym y.2)) ∙ flat y.0 m.0 m.1 y.0.is_constant refl in
+          sym (are.constants y.0 m.0 (finds t f x v may ids are.touched).finds z.position z.spot z.block z.instr z.stands z.there (z.named ∙ sym y.2)) ∙ flat y.0 m.0 m.1 y.0.is_constant refl in
           let no : repeatable_class t z.instr ≡ None = ap (λ b. cond b (whole_class t z.instr z.instr.operands) None) plain in
           sym (ap (λ b. cond b (Some n) None) (ap (serves t r.wish) no ∙ none-serves t r.wish)) ∙ z.is

@@ -86,9 +86,9 @@ module _ (s : Spilling) where
       either-elim k (map (keyed_way s q) (ways_read s q)) (flat_map (keyed_tied s) q)
       (λ w. let z = map-of (keyed_way s q) k (ways_read s q) w in inl (z.0, z.1, z.2))
       (λ w.
-          let z = flat-of (keyed_tied s) k q w in
-          let y = map-of (λ (p : TiedPair). keyed_move s z.0 p.tied_use.index) k (tied_readings s z.0) z.2 in
-          inr (z.0, z.1, ap (λ (k : Keyed). k.0) y.2))
+      let z = flat-of (keyed_tied s) k q w in
+      let y = map-of (λ (p : TiedPair). keyed_move s z.0 p.tied_use.index) k (tied_readings s z.0) z.2 in
+      inr (z.0, z.1, ap (λ (k : Keyed). k.0) y.2))
       m
 
   effect-kinds : (i : Instr) (k : Keyed) (e : Option Effect) (os : List Operand) → Member k (keyed_effect s i e os) → Kind (i ∷ []) k

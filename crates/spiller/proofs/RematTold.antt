@@ -171,14 +171,14 @@ module _ (view : SpillView) (may : MaySpill view.target.now view.live.now.func v
     some-same : list_any (reaches_use s d) us ≡ nat_lt 0 (length rs)
     some-same = same-truth _ _
         (λ h.
-            let z = any-of (reaches_use s d) us h in
-            let r = reading-of z.0 z.1 in
-            member-some r.0 rs (filter-in (reaches s i) r.0 (all_readings s) r.1 (reach-same z.0 r.0 r.2 ∙ z.2)))
+        let z = any-of (reaches_use s d) us h in
+        let r = reading-of z.0 z.1 in
+        member-some r.0 rs (filter-in (reaches s i) r.0 (all_readings s) r.1 (reach-same z.0 r.0 r.2 ∙ z.2)))
         (λ h.
-            let r = some-member rs h in
-            let m = filter-of (reaches s i) r.0 (all_readings s) r.1 in
-            let u = use-of r.0 m.0 in
-            any-in (reaches_use s d) u.0 us u.1 (sym (reach-same u.0 r.0 u.2) ∙ m.1))
+        let r = some-member rs h in
+        let m = filter-of (reaches s i) r.0 (all_readings s) r.1 in
+        let u = use-of r.0 m.0 in
+        any-in (reaches_use s d) u.0 us u.1 (sym (reach-same u.0 r.0 u.2) ∙ m.1))
 
     some-repeated : (q : Option Instr) → is_some (option_map (λ d. d.id) q) ≡ elim q as (λ q. Bool) [ None ↦ false | Some d ↦ true ]
     some-repeated None = refl
@@ -199,7 +199,7 @@ module _ (view : SpillView) (may : MaySpill view.target.now view.live.now.func v
             let n = filter-of (reaches s i) r (all_readings s) m in
             let u = use-of r n.0 in
             is-true (is_rematerialised s r) (λ e. not-true (list_any (needs_value s d) us) h
-                (any-in (needs_value s d) u.0 us u.1 (both-true (reaches_use s d u.0) (not (is_some u.0.source)) (sym (reach-same u.0 r u.2) ∙ n.1) (ap not (repeated-same u.0 u.1 r u.2 ∙ e))))))
+            (any-in (needs_value s d) u.0 us u.1 (both-true (reaches_use s d u.0) (not (is_some u.0.source)) (sym (reach-same u.0 r u.2) ∙ n.1) (ap not (repeated-same u.0 u.1 r u.2 ∙ e))))))
 
         back : list_all (is_rematerialised s) rs ≡ true → not (list_any (needs_value s d) us) ≡ true
         back h = ap not (is-false (list_any (needs_value s d) us) (λ g.
@@ -226,9 +226,9 @@ module _ (view : SpillView) (may : MaySpill view.target.now view.live.now.func v
   goes-at : (i : Instr) → Member i all → goes i.id ≡ is_needless s i
   goes-at i m = same-truth _ _
       (λ h.
-          let z = any-of (λ (j : Instr). nat_eq j.id i.id && is_needless s j) all h in
-          let same : z.0 ≡ i = one-instr t f x v may ids are z.0 i (site-in z.0 z.1) (site-in i m) (eqb-true z.0.id i.id (first_of_both (nat_eq z.0.id i.id) (is_needless s z.0) z.2)) in
-          ap (is_needless s) (sym same) ∙ second_of_both (nat_eq z.0.id i.id) (is_needless s z.0) z.2)
+      let z = any-of (λ (j : Instr). nat_eq j.id i.id && is_needless s j) all h in
+      let same : z.0 ≡ i = one-instr t f x v may ids are z.0 i (site-in z.0 z.1) (site-in i m) (eqb-true z.0.id i.id (first_of_both (nat_eq z.0.id i.id) (is_needless s z.0) z.2)) in
+      ap (is_needless s) (sym same) ∙ second_of_both (nat_eq z.0.id i.id) (is_needless s z.0) z.2)
       (λ h. any-in (λ (j : Instr). nat_eq j.id i.id && is_needless s j) i all m (both-true (nat_eq i.id i.id) (is_needless s i) (eq-eqb i.id i.id refl) h))
 
   pub goes-tests : TestsNeedless s ds us goes

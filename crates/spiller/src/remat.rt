@@ -692,7 +692,13 @@ fn add_end_way(
     ensures { AllByRecursion IsPlainForm instrs.now → OnOk result (Lists view.entry definitions.now (λ s. keyed_way s instrs.now (way_of view.entry.v way) ∷ []) readings.old.items readings.new.items) }
 {
     let by = readers_of(view, instrs, way)?;
-    add_reading(view, definitions, way_demand(place_name(instrs), way), by, readings)
+    add_reading(
+        view,
+        definitions,
+        way_demand(place_name(instrs), way),
+        by,
+        readings,
+    )
 }
 
 /// Lists the readings by tied uses of instructions.
