@@ -26,6 +26,7 @@ use Rattle.spiller.specs.Rematerialised.{Reading, if_serves, reaches, reaching, 
 use Rattle.spiller.specs.Setting.{Spilling}
 use Rattle.spiller.specs.Walks.{lists, told_by}
 use Rattle.spiller.proofs.ReachesTold.{ids-are, unnamed}
+use Rattle.spiller.proofs.Basics.{same-truth}
 
 -- tests and lists
 
@@ -42,11 +43,6 @@ any-same p q (x ∷ xs) h = ap (λ b. b || list_any p xs) (h x) ∙ ap (λ b. q 
 any-map : {X : Type 0} (p : ℕ → Bool) (g : X → ℕ) (xs : List X) → list_any p (map g xs) ≡ list_any (λ x. p (g x)) xs
 any-map p g [] = refl
 any-map p g (x ∷ xs) = ap (λ b. p (g x) || b) (any-map p g xs)
-
-same-truth : (a b : Bool) → (a ≡ true → b ≡ true) → (b ≡ true → a ≡ true) → a ≡ b
-same-truth true b h g = sym (h refl)
-same-truth false true h g = g refl
-same-truth false false h g = refl
 
 -- tests of lists with the same members are the same
 any-members : (p : ℕ → Bool) (xs ys : List ℕ) → ((i : ℕ) → has i xs ≡ has i ys) → list_any p xs ≡ list_any p ys
