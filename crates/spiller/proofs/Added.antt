@@ -26,14 +26,6 @@ pub or-more : (a b c : Bool) → ((a || b) || c) ≡ (a || (b || c))
 or-more true b c = refl
 or-more false b c = refl
 
-pub or-false : (a : Bool) → (a || false) ≡ a
-or-false true = refl
-or-false false = refl
-
-pub or-true : (a : Bool) → (a || true) ≡ true
-or-true true = refl
-or-true false = refl
-
 -- further numbers behind others
 zip-more : {X Y : Type 0} (f : X → Y) (n : ℕ) (xs ys : List X) → zip (numbers n (length xs)) (map f xs) ++ zip (numbers (n + length xs) (length ys)) (map f ys) ≡ zip (numbers n (length (xs ++ ys))) (map f (xs ++ ys))
 zip-more f n [] ys = let e : n + 0 ≡ n = omega arith in ap (λ m. zip (numbers m (length ys)) (map f ys)) e

@@ -12,8 +12,10 @@ use Rattle.mir_func.specs.Binding.{does, is_terminator}
 use Rattle.mir_meaning.specs.Paths.{has}
 use Rattle.mir_meaning.specs.Registers.{has_number}
 use Rattle.mir_meaning.specs.Rules.{V5, block_numbers, successors_of, named_blocks}
+use Rattle.live_lanes.proofs.Certain.{not-true}
 use Rattle.edit_laws.specs.Edits.{Edit}
 use Rattle.edit_laws.specs.Further.{with_classes}
+use Rattle.edit_laws.proofs.ErasedLast.{total-step}
 use Rattle.live_edits.specs.declared.edit.Edit.{Edit as CodeEdit}
 use Rattle.live_edits.specs.Runs.{edits_of}
 use Rattle.spiller.specs.Setting.{Spilling}
@@ -23,7 +25,7 @@ use Rattle.spiller.specs.EditLaw.{tiny_classes}
 use Rattle.spiller.specs.Planned.{change_edits}
 use Rattle.spiller.specs.WholePlan.{gap_at, instrs_of}
 use Rattle.spiller.proofs.EditMoves.{After, Holds, In, Leads, leads-then}
-use Rattle.spiller.proofs.EditSteps.{Single, total-first}
+use Rattle.spiller.proofs.EditSteps.{Single}
 use Rattle.spiller.proofs.PlaceEdits.{Fits, edits-both, length-ids, place-lead, placed}
 
 -- the places are the instructions
@@ -117,7 +119,7 @@ module _ (s : Spilling) (g : Function) where
     kept_single = h.kept_single;
     same = h.same;
     fresh = fresh;
-    gone = λ id m. (let z = h.gone id m in (z.0, omega (arith, z.1, total-first id b bs)));
+    gone = λ id m. (let z = h.gone id m in (z.0, omega (arith, z.1, total-step id b bs)));
   }
 
   numbers-both : (bs cs : List Block) → block_numbers (bs ++ cs) ≡ block_numbers bs ++ block_numbers cs
@@ -179,10 +181,6 @@ all-other s g ns (b ∷ bs) h = (
   subst (λ ms. has_number ms b.number ≡ false) (append-nil ns) (h 0 b refl),
   all-other s g (ns ++ b.number ∷ []) bs (λ k c e. subst (λ ms. has_number ms c.number ≡ false) (sym (append_assoc ns (b.number ∷ []) (block_numbers (take k bs)))) (h (suc k) c e)),
 )
-
-not-true : (u : Bool) → not u ≡ true → u ≡ false
-not-true true h = absurd (let z : false ≡ true = h in cc)
-not-true false h = refl
 
 first-true : (u w : Bool) → u && w ≡ true → u ≡ true
 first-true true w h = refl

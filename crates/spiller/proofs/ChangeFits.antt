@@ -37,7 +37,7 @@ use Rattle.spiller.proofs.Unnamed.{stays-itself, strange-of}
 same-of : {X : Type 0} (x y : X) → ◌≡◌ {A = Option X} (Some x) (Some y) → x ≡ y
 same-of x y e = cc
 
-nothing-serves : (t : Target) (wish : Wish) → serves t wish None ≡ false
+pub nothing-serves : (t : Target) (wish : Wish) → serves t wish None ≡ false
 nothing-serves t Never = refl
 nothing-serves t (Within None) = refl
 nothing-serves t (Within (Some c)) = refl

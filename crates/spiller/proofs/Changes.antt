@@ -18,13 +18,14 @@ use Rattle.mir_func.specs.declared.func.Operand.TheVariants as operands
 use Rattle.mir_func.specs.declared.func.Instr.{Instr}
 use Rattle.live_edits.specs.declared.edit.Edit.{Edit}
 use Rattle.live_edits.specs.declared.edit.Edit.TheVariants as edits
+use Rattle.lowering_laws.proofs.NamedTies.{or-true}
 use Rattle.spiller.specs.Setting.{Spilling, in_own_slot, lanes_named, opcode, plain_definition, plain_use, reload, store}
 use Rattle.spiller.specs.Spilled.{Change, becomes, in_place_of, is_slot, new_ids, through_tiny}
 use Rattle.spiller.specs.Views.{Planned}
 use Rattle.spiller.specs.Planned.{change_edits, known_op, names_own, names_own_slot, names_slot_anew, own_edits, put_all, uses_own_slot, with_change}
 use Rattle.spiller.specs.Additions.{Addition, both, edited, put_into, ranges_made, slot_named, with_addition}
 use Rattle.spiller.specs.Moving.{moved_through}
-use Rattle.spiller.proofs.Added.{addition-is, or-true, then-added}
+use Rattle.spiller.proofs.Added.{addition-is, then-added}
 
 -- a change by its parts
 pub changed : (s : Spilling) (before behind : Gap) (is : List Instr) (x : Change) (p : Planned) (a : Addition) → change_edits s before behind is x ≡ a.edits → x.tinies ≡ a.tinies → uses_own_slot s is x ≡ a.uses_slot → new_ids x ≡ a.new → with_change s before behind is x p ≡ with_addition a p

@@ -14,6 +14,7 @@ use Rattle.mir_meaning.specs.Codes.{block_end, blocks_code}
 use Rattle.mir_meaning.specs.Points.{point_item, has_instr, block_rest, from_instr}
 use Rattle.mir_meaning.specs.Paths.{has}
 use Rattle.instr_effects.proofs.Members.{map-in}
+use Rattle.instr_effects.proofs.Tables.{map-long}
 use Rattle.live_lanes.specs.Ordered.{ids_of, AreRising}
 use Rattle.live_lanes.specs.Table.{Numbers}
 use Rattle.live_lanes.proofs.Finding.{stands-there}
@@ -126,16 +127,12 @@ long-join : {X : Type 0} (xs ys : List X) → length (xs ++ ys) ≡ length xs + 
 long-join [] ys = omega arith
 long-join (x ∷ xs) ys = omega (arith, long-join xs ys)
 
-long-map : {X Y : Type 0} (g : X → Y) (xs : List X) → length (map g xs) ≡ length xs
-long-map g [] = refl
-long-map g (x ∷ xs) = ap suc (long-map g xs)
-
 module _ (t : Target) (f : Function) where
   abbrev size : List Block → ℕ
   size bs = length (blocks_code (point_item t f) t f bs)
 
   rest-long : (b : Block) (after : List Block) (is : List Instr) → length (rest_code t f b after is) ≡ length is + suc (size after)
-  rest-long b after is = long-join (map (point_item t f b) is) _ ∙ ap (λ n. n + suc (size after)) (long-map (point_item t f b) is)
+  rest-long b after is = long-join (map (point_item t f b) is) _ ∙ ap (λ n. n + suc (size after)) (map-long (point_item t f b) is)
 
   block-long : (b : Block) (bs : List Block) → size (b ∷ bs) ≡ suc (length b.instrs + suc (size bs))
   block-long b bs = ap suc (rest-long b bs b.instrs)

@@ -5,7 +5,7 @@ use Rattle.std.specs.Option.{option_map_or}
 use Rattle.std.specs.List.{insert}
 use Rattle.std.proofs.lemmas.Bool.{ltb-true, ltb-false}
 use Rattle.std.proofs.lemmas.Option.{same_Some}
-use Rattle.std.proofs.lemmas.List.Sums.{sum_by-append, sum_by-cons}
+use Rattle.std.proofs.lemmas.List.Sums.{sum_by-append}
 use Rattle.target_base.specs.declared.types.OpId.{OpId}
 use Rattle.mir_func.specs.declared.func.Block.{Block}
 use Rattle.mir_func.specs.declared.func.Instr.{Instr}
@@ -20,6 +20,7 @@ use Rattle.mir_meaning.specs.Registers.{has_number}
 use Rattle.mir_meaning.specs.Rules.{block_numbers}
 use Rattle.live_lanes.specs.Ordered.{ids_of}
 use Rattle.edit_laws.specs.Edits.{replaced, with_op}
+use Rattle.edit_laws.proofs.ErasedLast.{total-step}
 use Rattle.live_edits.specs.Drafts.{HasGap}
 use Rattle.live_edits.proofs.JoiningEdits.{count-append, count-step}
 use Rattle.live_edits.proofs.RunPlaces.{replaced-function}
@@ -38,11 +39,8 @@ Single f = IsFunction f.blocks f.next_id
 abbrev pub one_if : Bool → ℕ
 one_if u = cond u 1 0
 
-pub total-first : (x : ℕ) (b : Block) (bs : List Block) → id_total x (b ∷ bs) ≡ id_count x b.instrs + id_total x bs
-total-first x b bs = sum_by-cons (λ (c : Block). id_count x c.instrs) b bs
-
 total-at : (x : ℕ) (pre : List Block) (b : Block) (js : List Instr) (post : List Block) → id_total x (pre ++ (record b { instrs = js }) ∷ post) ≡ id_total x pre + (id_count x js + id_total x post)
-total-at x pre b js post = omega (arith, sum_by-append (λ (c : Block). id_count x c.instrs) pre ((record b { instrs = js }) ∷ post), total-first x (record b { instrs = js }) post)
+total-at x pre b js post = omega (arith, sum_by-append (λ (c : Block). id_count x c.instrs) pre ((record b { instrs = js }) ∷ post), total-step x (record b { instrs = js }) post)
 
 count-more : (x : ℕ) (done : List Instr) (i : Instr) (left : List Instr) → id_count x ((done ++ i ∷ []) ++ left) ≡ one_if (nat_eq i.id x) + id_count x (done ++ left)
 count-more x done i left =

@@ -10,6 +10,7 @@ use Rattle.mir_meaning.specs.Paths.{has}
 use Rattle.instr_effects.proofs.Members.{member-none, member-elim, left-in, right-in, either-elim, flat-of, flat-in}
 use Rattle.live_lanes.specs.declared.table.Table.{Table}
 use Rattle.live_lanes.specs.Ways.{successors}
+use Rattle.live_lanes.proofs.Flowing.{or-false}
 use Rattle.live_laws.proofs.Touch.Cells.{or-cases, or-left, or-right}
 use Rattle.live_laws.proofs.Touch.Sequence.{has-member, member-has}
 use Rattle.spiller.specs.declared.reaching.BlockTouches.{BlockTouches}
@@ -18,6 +19,7 @@ use Rattle.spiller.specs.declared.reaching.LaneFlow.{LaneFlow}
 use Rattle.spiller.specs.declared.reaching.LaneReading.{LaneReading}
 use Rattle.spiller.specs.declared.reaching.LaneTouch.{LaneTouch}
 use Rattle.spiller.specs.Walks.{touch_of, touches_at, touches_in, rest_behind, seen, Enters, reached_at, AddsTouch, AddsSeen, IsFlow, HasFlows, IsSeen, FlowsTo, lists}
+use Rattle.spiller.proofs.Basics.{is-false}
 
 -- one more instruction that touches the range
 
@@ -68,14 +70,6 @@ lists-other : (l k i : ℕ) (is : List ℕ) → nat_eq l k ≡ false → lists (
 lists-other l k i [] e = refl
 lists-other l k i (j ∷ is) e = ap (λ b. b && nat_eq j i || lists (map (reached_at l) is) k i) e ∙ lists-other l k i is e
 
-is-false : (b : Bool) → (b ≡ true → ⊥) → b ≡ false
-is-false true n = absurd (n refl)
-is-false false n = refl
-
-or-none : (b : Bool) → (b || false) ≡ b
-or-none true = refl
-or-none false = refl
-
 -- the readings from the rest of a block, and from the blocks that are entered
 pub seen-added : (ways : ℕ → List ℕ) (flow : LaneFlow) (at : ℕ) (rest : List LaneTouch) (qs : List ℕ) (old mid new : List LaneReading) → ((q : ℕ) → (has q qs ≡ true) ↔ Enters ways flow.blocks.items flow.dead.items at rest q)
     → mid ≡ old ++ map (reached_at flow.lane) (seen rest) → new ≡ mid ++ map (reached_at flow.lane) (flat_map (λ q. seen (touches_at flow.blocks.items q)) qs) → AddsSeen ways flow at rest old new
@@ -83,7 +77,7 @@ seen-added ways flow at rest qs old mid new just e g = record {
   others = λ k i n.
       all k i ∙ (ap (λ b. (lists old k i || b) || lists (map (reached_at flow.lane) deeper) k i) (lists-other flow.lane k i (seen rest) (is-false (nat_eq flow.lane k) n))
       ∙ (ap (λ b. (lists old k i || false) || b) (lists-other flow.lane k i deeper (is-false (nat_eq flow.lane k) n))
-      ∙ (or-none (lists old k i || false) ∙ or-none (lists old k i))));
+      ∙ (or-false (lists old k i || false) ∙ or-false (lists old k i))));
   own = λ i. (forth i, back i);
 }
   where

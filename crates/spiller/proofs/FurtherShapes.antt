@@ -2,7 +2,6 @@
 use Rattle.std.proofs.Common.{◌≡◌, ◌∷◌, ◌++◌, ◌∙◌, ◌&&◌, ◌||◌, ◌⊎◌, inl, inr, not, ℕ, zero, suc, Bool, true, false, cond, List, Option, Some, None, map, filter, length, refl, sym, ap, subst, []}
 use Rattle.std.specs.Prelude.{◌==◌, flat_map, is_some, option_and_then, option_to_list, slice_get, slice_index}
 use Rattle.std.specs.List.{list_all, list_any}
-use Rattle.std.proofs.lemmas.Option.{same_Some}
 use Rattle.target_base.specs.declared.types.ClassId.{ClassId}
 use Rattle.target_base.specs.declared.types.Effect.{Effect}
 use Rattle.target_base.specs.declared.types.Effect.TheVariants as effects
@@ -27,12 +26,16 @@ use Rattle.mir_meaning.specs.Items.{unreserved}
 use Rattle.mir_meaning.specs.Registers.{located_lanes, located_widths, numbers}
 use Rattle.mir_meaning.specs.declared.Form.TheVariants as forms
 use Rattle.mir_meaning.specs.Rules.{V1, V2, V3, V4, V5, V7, V12, at_index, clashing_lanes, defined_lanes, early_fits, explicit_fit, implicit_fit, implicit_last, has_class, has_home, has_lanes_at, in_operand_class, index_fits, index_of, is_opaque, is_reserved_register, lanes_fit, lies_in, no_two_share, operands_fit, parts_fit, are_apart, readings_besides, register_lies_in, same_widths, share_a_lane, subregs_fit, takes_reserved, undef_fits, undef_uses_fit, values_fit, widths_fit}
+use Rattle.instr_effects.proofs.Members.{map-in}
+use Rattle.instr_effects.proofs.Tables.{slice-left}
 use Rattle.live_laws.specs.Effects.Coded.{KeepsRules}
 use Rattle.live_laws.specs.Effects.Shaped.{IsShaped}
 use Rattle.live_laws.proofs.Effects.Shapes.{class-there}
+use Rattle.live_laws.proofs.Effects.Blocks.{slice-member}
 use Rattle.live_edits.proofs.JoiningMembers.{filter-member}
 use Rattle.live_edits.proofs.JoiningPlaces.{map-member}
 use Rattle.edit_laws.specs.Further.{with_classes}
+use Rattle.spiller.proofs.Basics.{map-same}
 
 -- tests that agree on members
 
@@ -43,15 +46,6 @@ all-same p q (x ∷ xs) h = λ k. h x here k && all-same p q xs (λ y m. h y (th
 any-same : {X : Type 0} (p q : X → Bool) (xs : List X) → ((x : X) → Member x xs → p x ≡ q x) → list_any p xs ≡ list_any q xs
 any-same p q [] h = refl
 any-same p q (x ∷ xs) h = λ k. h x here k || any-same p q xs (λ y m. h y (there m)) k
-
-map-same : {X Y : Type 0} (p q : X → Y) (xs : List X) → ((x : X) → Member x xs → p x ≡ q x) → map p xs ≡ map q xs
-map-same p q [] h = refl
-map-same p q (x ∷ xs) h = λ k. h x here k ∷ map-same p q xs (λ y m. h y (there m)) k
-
-map-in : {X Y : Type 0} (g : X → Y) (x : X) (xs : List X) → Member x xs → Member (g x) (map g xs)
-map-in g x [] m = elim m [ ]
-map-in g x (y ∷ xs) here = here
-map-in g x (y ∷ xs) (there m) = there (map-in g x xs m)
 
 either-member : {X : Type 0} (P : X → Type 0) (xs ys : List X) (y : X) → Member y (xs ++ ys) → ((x : X) → Member x xs → P x) → ((x : X) → Member x ys → P x) → P y
 either-member P [] ys y a p q = q y a
@@ -72,18 +66,8 @@ registers-member o (operands.Mask z ∷ os) m = there (registers-member o os m)
 
 -- further classes
 
-get-first : {X : Type 0} (xs ys : List X) (k : ℕ) (x : X) → slice_get xs k ≡ Some x → slice_get (xs ++ ys) k ≡ Some x
-get-first [] ys k x e = absurd (cc)
-get-first (y ∷ xs) ys zero x e = e
-get-first (y ∷ xs) ys (suc k) x e = get-first xs ys k x e
-
-get-member : {X : Type 0} (xs : List X) (k : ℕ) (x : X) → slice_get xs k ≡ Some x → Member x xs
-get-member [] k x e = absurd (cc)
-get-member {X = X} (y ∷ xs) zero x e = subst (λ (z : X). Member z (y ∷ xs)) (same_Some y x e) here
-get-member (y ∷ xs) (suc k) x e = there (get-member xs k x e)
-
 get-either : {X : Type 0} (xs ys : List X) (k : ℕ) (x : X) → slice_get (xs ++ ys) k ≡ Some x → (slice_get xs k ≡ Some x) ⊎ Member x ys
-get-either [] ys k x e = inr (get-member ys k x e)
+get-either [] ys k x e = inr (slice-member ys k x e)
 get-either (y ∷ xs) ys zero x e = inl e
 get-either (y ∷ xs) ys (suc k) x e = get-either xs ys k x e
 
@@ -99,7 +83,7 @@ module _ (t : Target) (f : Function) (cs : List (Option ClassId)) where
     where
       go : (q : Option (Option ClassId)) → slice_get f.classes w ≡ q → is_some (class_at q) ≡ true → class_at (slice_get (f.classes ++ cs) w) ≡ class_at (slice_get f.classes w)
       go None e h = absurd (let z : false ≡ true = h in cc)
-      go (Some c) e h = ap class_at (get-first f.classes cs w c e ∙ sym e)
+      go (Some c) e h = ap class_at (slice-left f.classes cs w c e ∙ sym e)
 
   -- a register with a class
 

@@ -42,16 +42,13 @@ use Rattle.spiller.proofs.OwnUses.{ways-are}
 use Rattle.spiller.proofs.ReachesTold.{Site, ids-are, site-of}
 use Rattle.spiller.proofs.ReadingPlaces.{all-by, form, in-line, place-of, place-there}
 use Rattle.spiller.proofs.ReadingsListed.{place-by-is}
+use Rattle.spiller.proofs.Basics.{map-both}
 
 -- lists
 
 map-flat : {X Y Z : Type 0} (f : Y → Z) (g : X → List Y) (xs : List X) → map f (flat_map g xs) ≡ flat_map (λ x. map f (g x)) xs
 map-flat f g [] = refl
 map-flat f g (x ∷ xs) = map-append f (g x) (flat_map g xs) ∙ ap (λ ys. map f (g x) ++ ys) (map-flat f g xs)
-
-map-both : {X Y Z : Type 0} (f : Y → Z) (g : X → Y) (xs : List X) → map f (map g xs) ≡ map (λ x. f (g x)) xs
-map-both f g [] = refl
-map-both f g (x ∷ xs) = ap (λ ys. f (g x) ∷ ys) (map-both f g xs)
 
 flat-same : {X Y : Type 0} (f g : X → List Y) (xs : List X) → ((x : X) → f x ≡ g x) → flat_map f xs ≡ flat_map g xs
 flat-same f g [] h = refl

@@ -19,13 +19,14 @@ use Rattle.mir_func.specs.Binding.{after_first, as_register, effect_of, explicit
 use Rattle.mir_func.proofs.Bound.{bound_step, bound_none}
 use Rattle.instr_effects.specs.declared.owner.Owner.TheVariants as owners
 use Rattle.instr_effects.specs.Numbered.{number_in}
-use Rattle.instr_effects.proofs.Members.{filter-of, flat-of, member-elim, member-none}
+use Rattle.instr_effects.proofs.Members.{filter-of, flat-of}
 use Rattle.live_lanes.specs.declared.table.Table.{Table}
 use Rattle.live_lanes.specs.Looks.{exit_at}
 use Rattle.live_laws.specs.Effects.Coded.{spot_in}
 use Rattle.live_laws.specs.Effects.Shaped.{IsShaped}
 use Rattle.live_laws.specs.Exact.Laws.{TellsInside}
 use Rattle.live_laws.proofs.Touch.Roles.{fit, has_roles, met}
+use Rattle.live_laws.proofs.Effects.Blocks.{member-slice}
 use Rattle.lowering_laws.proofs.Rolled.{fit-operands}
 use Rattle.spiller.specs.Reaching.{Facts, AreFacts}
 use Rattle.spiller.specs.Setting.{Spilling, is_own}
@@ -91,12 +92,8 @@ tells-live t f x v facts i p j are inside at k = same_answer (facts.live_behind 
 
 -- an instruction that is repeated is one of the function's
 
-place-of : {X : Type 0} (x : X) (xs : List X) → Member x xs → (k : ℕ) × (slice_get xs k ≡ Some x)
-place-of x [] m = absurd (member-none x m)
-place-of {X = X} x (y ∷ xs) m = member-elim x y xs (λ e. (0, ap Some (sym e))) (λ k. let z = place-of x xs k in (suc z.0, z.1)) m
-
 pub there-of : (f : Function) (d : Instr) → Member d (flat_map (λ b. b.instrs) f.blocks) → IsThere f d
-there-of f d m = let z = flat-of (λ (b : Block). b.instrs) d f.blocks m in let p = place-of z.0 f.blocks z.1 in let j = place-of d z.0.instrs z.2 in (p.0, j.0, z.0, p.1, j.1)
+there-of f d m = let z = flat-of (λ (b : Block). b.instrs) d f.blocks m in let p = member-slice z.0 f.blocks z.1 in let j = member-slice d z.0.instrs z.2 in (p.0, j.0, z.0, p.1, j.1)
 
 serving : (t : Target) (wish : Wish) (ds : List Instr) (d : Instr) → if_serves t wish ds ≡ Some d → Member d ds
 serving t wish [] d e = absurd (cc)

@@ -7,6 +7,7 @@ use Rattle.std.proofs.lemmas.List.{length-map}
 use Rattle.std.proofs.lemmas.List.Folds.{list_any-append}
 use Rattle.std.proofs.lemmas.Map.Steps.{le-length_from_below}
 use Rattle.mir_meaning.specs.Registers.{numbers, has_number}
+use Rattle.live_lanes.proofs.Certain.{not-true, not-false}
 use Rattle.spiller.specs.Slots.{Slots, given_numbers, least_free, next_slot, HasFreeSlot}
 
 -- what a search of the numbers finds
@@ -29,14 +30,6 @@ none-passes p a (suc k) e q lo hi = go (p a) refl e (none-passes p (suc a) k)
     go true t e ih = absurd (let z : Some a ≡ None = e in cc)
     go false f e ih = ⊎_elim (λ s. subst (λ n. p n ≡ false) s f) (λ s. ih e q (omega arith) (omega arith)) (eq-or-lt_of_le lo)
 
-has-not : (b : Bool) → not b ≡ false → b ≡ true
-has-not true e = refl
-has-not false e = absurd (let z : true ≡ false = e in cc)
-
-not-has : (b : Bool) → not b ≡ true → b ≡ false
-not-has true e = absurd (let z : false ≡ true = e in cc)
-not-has false e = refl
-
 -- each number below the least free one is there, and it isn't
 pub free-least : (ns : List ℕ) → ((q : ℕ) → q < least_free ns → has_number ns q ≡ true) × (has_number ns (least_free ns) ≡ false) × (least_free ns ≤ length ns)
 free-least ns = go (find (λ n. not (has_number ns n)) (numbers 0 (suc (length ns)))) refl
@@ -44,11 +37,11 @@ free-least ns = go (find (λ n. not (has_number ns n)) (numbers 0 (suc (length n
     go : (r : Option ℕ) → find (λ n. not (has_number ns n)) (numbers 0 (suc (length ns))) ≡ r
         → let l = elim r as (λ r. ℕ) [ None ↦ length ns | Some n ↦ n ] in ((q : ℕ) → q < l → has_number ns q ≡ true) × (has_number ns l ≡ false) × (l ≤ length ns)
     go None e =
-        let each = λ (q : ℕ) (h : q < suc (length ns)). has-not (has_number ns q) (none-passes (λ n. not (has_number ns n)) 0 (suc (length ns)) e q (omega arith) (omega arith)) in
+        let each = λ (q : ℕ) (h : q < suc (length ns)). not-false (has_number ns q) (none-passes (λ n. not (has_number ns n)) 0 (suc (length ns)) e q (omega arith) (omega arith)) in
         absurd (let long = le-length_from_below ns (suc (length ns)) each in omega arith)
     go (Some m) e =
         let r = found-passes (λ n. not (has_number ns n)) 0 (suc (length ns)) m e in
-        (λ q h. has-not (has_number ns q) (r.2 q (omega arith) h), not-has (has_number ns m) r.0, let l = r.1 in omega arith)
+        (λ q h. not-false (has_number ns q) (r.2 q (omega arith) h), not-true (has_number ns m) r.0, let l = r.1 in omega arith)
 
 -- a number that isn't there, while all below it are, is the least free one
 pub free-is : (ns : List ℕ) (m : ℕ) → ((q : ℕ) → q < m → has_number ns q ≡ true) → has_number ns m ≡ false → m ≡ least_free ns

@@ -1,6 +1,8 @@
 pub mod Sample
 mod Examples
 mod Reached
+pub mod Basics
+pub mod EndsDropped
 pub mod NumbersTaken
 pub mod LeastFree
 pub mod SlotsGiven

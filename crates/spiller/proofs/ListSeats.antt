@@ -1,5 +1,5 @@
 -- Elements behind as many others of a list, and blocks and instructions by their numbers there.
-use Rattle.std.proofs.Common.{◌≡◌, ◌∷◌, ◌++◌, ◌∙◌, ◌+◌, ◌≤◌, not, ℕ, Bool, true, false, cond, List, [], Some, refl, sym, ap, length, arith, eq-eqb, eqb-true}
+use Rattle.std.proofs.Common.{◌≡◌, ◌∷◌, ◌++◌, ◌∙◌, ◌+◌, ◌≤◌, not, ℕ, Bool, true, false, cond, List, [], Some, refl, ap, length, arith, eq-eqb}
 use Rattle.std.specs.Prelude.{nat_eq, nat_lt, slice_get, ◌||◌}
 use Rattle.std.specs.List.{insert, remove}
 use Rattle.std.proofs.Math.Seq.{take-append_seam, drop-append_seam}
@@ -14,6 +14,7 @@ use Rattle.mir_meaning.specs.Registers.{has_number}
 use Rattle.mir_meaning.specs.Rules.{block_numbers}
 use Rattle.meaning.specs.Live.{Among, here, there}
 use Rattle.live_lanes.specs.Ordered.{ids_of}
+use Rattle.live_edits.proofs.JoiningLaw.{same-other}
 
 pub get-seat : {X : Type 0} (xs : List X) (y : X) (ys : List X) → slice_get (xs ++ y ∷ ys) (length xs) ≡ Some y
 get-seat [] y ys = refl
@@ -42,13 +43,6 @@ has-seat (j ∷ done) i is = go (nat_eq j.id i.id) (has-seat done i is)
     go true h = refl
     go false h = h
 
-other-way : (a b : ℕ) → nat_eq a b ≡ false → nat_eq b a ≡ false
-other-way a b e = go (nat_eq b a) refl
-  where
-    go : (u : Bool) → nat_eq b a ≡ u → u ≡ false
-    go true d = absurd (let z : true ≡ false = sym (eq-eqb a b (sym (eqb-true b a d))) ∙ e in cc)
-    go false d = refl
-
 neither : (u v : Bool) → u || v ≡ false → (u ≡ false) × (v ≡ false)
 neither true v h = absurd (let z : true ≡ false = h in cc)
 neither false v h = (refl, h)
@@ -58,7 +52,7 @@ pub block-seat : (pre : List Block) (b : Block) (post : List Block) → has_numb
 block-seat [] b post e = ap (λ u. cond (not u) (1 + block_place b.number post) 0) (eq-eqb b.number b.number refl)
 block-seat (c ∷ pre) b post e =
     let both = neither (nat_eq b.number c.number) (has_number (block_numbers pre) b.number) e in
-    ap (λ u. cond (not u) (1 + block_place b.number (pre ++ b ∷ post)) 0) (other-way b.number c.number both.0)
+    ap (λ u. cond (not u) (1 + block_place b.number (pre ++ b ∷ post)) 0) (same-other b.number c.number both.0)
     ∙ (ap (λ k. 1 + k) (block-seat pre b post both.1) ∙ omega arith)
 
 -- no id stands twice in a block of a function

@@ -28,6 +28,7 @@ use Rattle.spiller.specs.declared.remat.RematUse.{RematUse}
 use Rattle.spiller.specs.declared.remat.RematConstraint.{RematConstraint}
 use Rattle.spiller.specs.declared.remat.RematConstraint.TheVariants as constraints
 use Rattle.target_base.specs.declared.types.IndexId.{IndexId}
+use Rattle.instr_effects.proofs.Loops.{get-same}
 use Rattle.spiller.specs.declared.roles.IndexedClass.{IndexedClass}
 use Rattle.spiller.specs.Additions.{own_uses, seated_operands}
 use Rattle.spiller.specs.Listed.{AreKeyed, none, more, Asks, IsJudged, IsKeyed, Keyed, Lists, ListsOne, keyed_copy, keyed_effect, keyed_move, keyed_operands, keyed_tied, keyed_tied_uses, keyed_uses, keyed_way, readers, tied_own}
@@ -51,11 +52,6 @@ keyed-join s ks js us ws (more {k = k} {ks = ks'} {u = u} {us = us'} one rest) h
 all-join : {X : Type 0} (P : X → Type 0) (xs ys : List X) → AllByRecursion P xs → AllByRecursion P ys → AllByRecursion P (xs ++ ys)
 all-join P [] ys h g = g
 all-join P (x ∷ xs) ys h g = (h.0, all-join P xs ys h.1 g)
-
-pub got-same : {X : Type 0} (xs : List X) (k : ℕ) (d e : X) → k < length xs → get_or xs k d ≡ get_or xs k e
-got-same [] k d e h = absurd (omega (arith, h))
-got-same (x ∷ xs) zero d e h = refl
-got-same (x ∷ xs) (suc k) d e h = got-same xs k d e (omega (arith, h))
 
 module _ (view : SpillView) (ds : List Definition) where
   pub lists-none : (us : List RematUse) → Lists view ds (λ s. []) us us
@@ -87,7 +83,7 @@ module _ (view : SpillView) (ds : List Definition) where
 
   -- the same of things that are copied
   pub lists-got : {X : Type 0} (g : Spilling → X → List Keyed) (xs : List X) (k : ℕ) (d : X) (old mid new : List RematUse) → k < length xs → Lists view ds (λ s. flat_map (g s) (take k xs)) old mid → Lists view ds (λ s. g s (get_or xs k d)) mid new → Lists view ds (λ s. flat_map (g s) (take (k + 1) xs)) old new
-  lists-got g xs k d old mid new h a c = lists-step g xs k (get_or xs k d) (get_or xs k d) old mid new h (got-same xs k d (get_or xs k d) h) refl a c
+  lists-got g xs k d old mid new h a c = lists-step g xs k (get_or xs k d) (get_or xs k d) old mid new h (get-same xs k d (get_or xs k d) h) refl a c
 
   -- what is listed only where the operand is the range
   pub lists-if : (o : RegOp) (k : Spilling → Keyed) (old new : List RematUse) → is_range view.v o.loc ≡ true → Lists view ds (λ s. k s ∷ []) old new → Lists view ds (λ s. cond (is_own s o) (k s ∷ []) []) old new

@@ -1,17 +1,17 @@
 -- The plan is made along the instructions that touch the range, by their ids.
-use Rattle.std.proofs.Common.{◌≡◌, ◌∷◌, ◌++◌, ◌∙◌, ◌+◌, ◌<◌, ◌≤◌, not, ℕ, zero, suc, Bool, true, false, cond, List, [], Option, Some, None, filter, flat_map, length, get_or, drop, map, refl, sym, ap, subst, arith, add-one, one-add, append_assoc}
+use Rattle.std.proofs.Common.{◌≡◌, ◌∷◌, ◌++◌, ◌∙◌, ◌+◌, ◌<◌, ◌≤◌, ℕ, zero, suc, Bool, true, false, cond, List, [], Option, Some, None, filter, flat_map, length, get_or, drop, map, refl, sym, ap, subst, arith, add-one, append_assoc}
 use Rattle.std.specs.Prelude.{IfOk, OnOk, Ok, Err, ◌&&◌, ◌||◌, option_map, position, slice_get, slice_index}
 use Rattle.std.specs.declared.result.Result.{Result}
 use Rattle.std.proofs.lemmas.Option.{same_Some}
 use Rattle.std.specs.List.{list_all, list_any, position_or_len}
 use Rattle.std.proofs.lemmas.List.{map-append}
+use Rattle.std.proofs.lemmas.List.Elements.{filter-append}
 use Rattle.target_base.specs.declared.types.Target.{Target}
 use Rattle.meaning.specs.Live.{Among, here, there}
 use Rattle.mir_func.specs.declared.func.Block.{Block}
 use Rattle.mir_func.specs.declared.func.Gap.{Gap}
 use Rattle.mir_func.specs.declared.func.Instr.{Instr}
 use Rattle.mir_func.specs.Value.{Function}
-use Rattle.mir_func.proofs.Places.{position_or_len-le, position-None_is}
 use Rattle.mir_func.specs.Binding.{does, is_terminator}
 use Rattle.mir_meaning.specs.Paths.{has}
 use Rattle.mir_meaning.specs.Points.{touches}
@@ -23,8 +23,9 @@ use Rattle.live_lanes.specs.Tells.{TellsInstrs}
 use Rattle.live_lanes.specs.Touching.{AreTouched, FindsInstrs}
 use Rattle.live_lanes.specs.declared.table.Table.{Table}
 use Rattle.live_laws.proofs.Touch.Touched.{touched-law}
+use Rattle.phi_elim.proofs.Walks.{drop_all}
 use Rattle.lowering_laws.proofs.BlockRules.{ordered}
-use Rattle.spiller.specs.Marks.{IsMark, Mark, all_marks, block_ends, ends_of, has_ended, marks_from, with_mark, with_marks}
+use Rattle.spiller.specs.Marks.{IsMark, Mark, all_marks, has_ended, marks_from, with_mark, with_marks}
 use Rattle.spiller.specs.MaySpill.{MaySpill}
 use Rattle.spiller.specs.Placing.{AreTerminators}
 use Rattle.spiller.specs.Planned.{with_change}
@@ -37,20 +38,15 @@ use Rattle.spiller.proofs.BlockEdits.{other-number}
 use Rattle.spiller.proofs.ListSeats.{among-seat, get-seat, has-seat}
 use Rattle.spiller.proofs.MarkedPlan.{blocks-marked, distinct-blocks}
 use Rattle.spiller.proofs.PlaceOutcomes.{ordered-by}
+use Rattle.spiller.proofs.Basics.{drop-none}
+use Rattle.spiller.proofs.EndsDropped.{ends-dropped}
+use Rattle.spiller.specs.Ends.{ends_of, block_ends}
 
 abbrev pub mark_ids : List Mark → List ℕ
 mark_ids ms = map (λ m. m.instr.id) ms
 
 abbrev pub instr_ids : List Instr → List ℕ
 instr_ids is = map (λ i. i.id) is
-
-filter-both : {X : Type 0} (p : X → Bool) (xs ys : List X) → filter p (xs ++ ys) ≡ filter p xs ++ filter p ys
-filter-both p [] ys = refl
-filter-both p (x ∷ xs) ys = go (p x) (filter-both p xs ys)
-  where
-    go : (u : Bool) → filter p (xs ++ ys) ≡ filter p xs ++ filter p ys → cond u (x ∷ filter p (xs ++ ys)) (filter p (xs ++ ys)) ≡ cond u (x ∷ filter p xs) (filter p xs) ++ filter p ys
-    go true h = ap (λ zs. x ∷ zs) h
-    go false h = h
 
 module _ (v : ℕ) where
   block-ids : (b : Block) (is : List Instr) → mark_ids (marks_from v b is) ≡ instr_ids (filter (touches v) is)
@@ -67,7 +63,7 @@ module _ (v : ℕ) where
       let rest : List Instr = flat_map (λ (c : Block). c.instrs) bs in
       map-append (λ (m : Mark). m.instr.id) (marks_from v b b.instrs) (all_marks v bs)
       ∙ ((λ k. block-ids b b.instrs k ++ all-ids bs k)
-      ∙ (sym (map-append (λ (i : Instr). i.id) (filter (touches v) b.instrs) (filter (touches v) rest)) ∙ ap instr_ids (sym (filter-both (touches v) b.instrs rest))))
+      ∙ (sym (map-append (λ (i : Instr). i.id) (filter (touches v) b.instrs) (filter (touches v) rest)) ∙ ap instr_ids (sym (filter-append (touches v) b.instrs rest))))
 
   -- each mark stands where it says
 
@@ -120,18 +116,8 @@ next-mark ms ids k d e h =
     let r = next-suc ms k d (omega (arith, h, ap length e, length-ids ms)) in
     record { mark = r.0; member = r.1; named = r.2 ∙ ap (λ xs. get_or xs k d) (sym e); rest = r.3 ∙ ap (λ n. r.0 ∷ drop n ms) (sym (add-one k)) }
 
-pub drop-none : {X : Type 0} (xs : List X) → drop 0 xs ≡ xs
-drop-none [] = refl
-drop-none (x ∷ xs) = refl
-
-drop-all : {X : Type 0} (k : ℕ) (xs : List X) → length xs ≤ k → drop k xs ≡ []
-drop-all zero [] h = refl
-drop-all (suc k) [] h = refl
-drop-all zero (x ∷ xs) h = absurd (omega (arith, h))
-drop-all (suc k) (x ∷ xs) h = drop-all k xs (omega (arith, h))
-
 pub marks-ended : (ms : List Mark) (ids : List ℕ) (k : ℕ) → ids ≡ mark_ids ms → length ids ≤ k → drop k ms ≡ []
-marks-ended ms ids k e h = drop-all k ms (omega (arith, h, ap length e, length-ids ms))
+marks-ended ms ids k e h = drop_all k ms (omega (arith, h, ap length e, length-ids ms))
 
 -- what a computed table tells
 
@@ -211,17 +197,6 @@ number-of view p b before i left found stands parts =
 
 gap-first : (view : SpillView) (p : ℕ) (b : Block) (before : List Instr) (i : Instr) (left : List Instr) → FindsInstrs view.live.now.table view.live.now.func.blocks → slice_get view.live.now.func.blocks p ≡ Some b → b.instrs ≡ before ++ i ∷ left → gap_before view i.id ≡ gap_at b (i ∷ left)
 gap-first view p b before i left found stands parts = ap {B = Gap} (λ n. record { block = n; before = Some i.id }) (number-of view p b before i left found stands parts)
-
-pub none-behind : {X : Type 0} (p : X → Bool) (xs : List X) → None ≡ position p xs → length xs ≡ position_or_len p xs
-none-behind p xs e = omega (arith, position_or_len-le p xs, position-None_is p xs (sym e))
-
-pub ends-dropped : (t : Target) (is : List Instr) → drop (position_or_len (does is_terminator t) is) is ≡ ends_of t is
-ends-dropped t [] = refl
-ends-dropped t (i ∷ is) = go (does is_terminator t i) (ends-dropped t is)
-  where
-    go : (u : Bool) → drop (position_or_len (does is_terminator t) is) is ≡ ends_of t is → drop (cond (not u) (1 + position_or_len (does is_terminator t) is) 0) (i ∷ is) ≡ cond u (i ∷ is) (ends_of t is)
-    go true h = refl
-    go false h = ap (λ n. drop n (i ∷ is)) (one-add (position_or_len (does is_terminator t) is)) ∙ h
 
 -- what is planned for a mark
 

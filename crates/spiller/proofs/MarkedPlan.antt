@@ -12,16 +12,13 @@ use Rattle.mir_meaning.specs.Registers.{has_number}
 use Rattle.mir_meaning.specs.Rules.{block_numbers}
 use Rattle.live_edits.proofs.RunPlaces.{member-place}
 use Rattle.lowering_laws.proofs.BlockRules.{ordered}
-use Rattle.spiller.specs.Marks.{Mark, all_marks, ends_of, has_ended, marks_from, with_marks}
+use Rattle.spiller.specs.Marks.{Mark, all_marks, has_ended, marks_from, with_marks}
 use Rattle.spiller.specs.Rematerialised.{places_from, places_of}
 use Rattle.spiller.specs.Setting.{Spilling}
 use Rattle.spiller.specs.Views.{Planned}
 use Rattle.spiller.specs.WholePlan.{instrs_of, with_blocks, with_place, with_places}
 use Rattle.spiller.proofs.BlockEdits.{places-whole}
-
-or-none : (u : Bool) → u || false ≡ u
-or-none true = refl
-or-none false = refl
+use Rattle.spiller.specs.Ends.{ends_of}
 
 module _ (s : Spilling) where
   abbrev t : Target

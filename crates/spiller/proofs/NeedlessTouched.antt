@@ -25,19 +25,22 @@ use Rattle.instr_effects.specs.Numbered.{number_in}
 use Rattle.instr_effects.specs.Steps.{Numbering}
 use Rattle.instr_effects.proofs.Members.{filter-of, map-in}
 use Rattle.live_lanes.specs.declared.table.Table.{Table}
+use Rattle.live_lanes.proofs.Finding.{found-within}
 use Rattle.live_laws.specs.Effects.Coded.{IsNumbered, KeepsRules}
 use Rattle.live_laws.proofs.Effects.Instrs.{same-law, written-law}
 use Rattle.live_laws.proofs.Effects.Tabled.{table-law}
 use Rattle.live_laws.proofs.Exact.Spots.{drop-at}
 use Rattle.live_laws.proofs.Touch.Cells.{any-of}
 use Rattle.live_laws.proofs.Touch.Naming.{naming-law}
+use Rattle.edit_laws.proofs.ErasedLast.{total-step}
 use Rattle.live_edits.proofs.JoiningEdits.{count-step}
 use Rattle.live_edits.proofs.RunPlaces.{member-place}
+use Rattle.lowering_laws.proofs.Arrivals.{at-least}
 use Rattle.spiller.specs.MaySpill.{MaySpill}
 use Rattle.spiller.specs.Reaching.{AreFacts, Brings}
 use Rattle.spiller.specs.Rematerialised.{Reading, all_readings, is_constant, is_needless, is_rematerialised, reaches}
 use Rattle.spiller.specs.Setting.{Spilling}
-use Rattle.spiller.proofs.EditSteps.{one_if, total-first}
+use Rattle.spiller.proofs.EditSteps.{one_if}
 
 -- the code from an instruction on
 
@@ -48,11 +51,6 @@ counted id zero i (j ∷ is) e same =
     omega (arith, count-step id j is, ap one_if (eq-eqb j.id id (ap (λ (y : Instr). y.id) q ∙ same)))
 counted id (suc k) i (j ∷ is) e same = omega (arith, count-step id j is, counted id k i is e same)
 
-within : {X : Type 0} (xs : List X) (k : ℕ) (x : X) → slice_get xs k ≡ Some x → k < length xs
-within [] k x e = absurd (cc)
-within (y ∷ xs) zero x e = omega arith
-within (y ∷ xs) (suc k) x e = omega (arith, within xs k x e)
-
 no-place : (id : ℕ) (is : List Instr) → id_count id is ≡ 0 → length is ≤ instr_place id is
 no-place id [] none = omega arith
 no-place id (i ∷ is) none = go (nat_eq i.id id) (count-step id i is) (no-place id is)
@@ -61,33 +59,26 @@ no-place id (i ∷ is) none = go (nat_eq i.id id) (count-step id i is) (no-place
     go true step more = absurd (omega (arith, step, none))
     go false step more = let z : length is ≤ instr_place id is = more (omega (arith, step, none)) in omega (arith, z)
 
-not-below : (a c : ℕ) → c ≤ a → nat_lt a c ≡ false
-not-below a c h = go (nat_lt a c) refl
-  where
-    go : (u : Bool) → nat_lt a c ≡ u → u ≡ false
-    go true e = absurd (let z : a < c = ltb-true a c e in omega (arith, h, z))
-    go false e = refl
-
 total-counted : (b : Block) (bs : List Block) (i : Instr) → Among b bs → Among i b.instrs → 1 ≤ id_total i.id bs
 total-counted b [] i m mi = elim m [ ]
-total-counted b (c ∷ bs) i here mi = let z = member-place mi in omega (arith, total-first i.id b bs, counted i.id z.0 i b.instrs z.1 refl)
-total-counted b (c ∷ bs) i (there m) mi = omega (arith, total-first i.id c bs, total-counted b bs i m mi)
+total-counted b (c ∷ bs) i here mi = let z = member-place mi in omega (arith, total-step i.id b bs, counted i.id z.0 i b.instrs z.1 refl)
+total-counted b (c ∷ bs) i (there m) mi = omega (arith, total-step i.id c bs, total-counted b bs i m mi)
 
 module _ (t : Target) (f : Function) where
   pub from-is : (b : Block) (bs : List Block) (i : Instr) → id_total i.id bs ≤ 1 → Among b bs → Among i b.instrs → (rest : Code) × (from_instr t f i.id bs ≡ point_item t f b i ∷ rest)
   from-is b [] i once m mi = elim m [ ]
   from-is b (c ∷ bs) i once here mi =
       let z = member-place mi in
-      let place : instr_place i.id b.instrs ≡ z.0 = place_is i.id z.0 i b.instrs z.1 refl (omega (arith, once, total-first i.id b bs)) in
-      let there : has_instr i.id b ≡ true = ap (λ k. nat_lt k (length b.instrs)) place ∙ lt-ltb z.0 (length b.instrs) (within b.instrs z.0 i z.1) in
+      let place : instr_place i.id b.instrs ≡ z.0 = place_is i.id z.0 i b.instrs z.1 refl (omega (arith, once, total-step i.id b bs)) in
+      let there : has_instr i.id b ≡ true = ap (λ k. nat_lt k (length b.instrs)) place ∙ lt-ltb z.0 (length b.instrs) (found-within b.instrs z.0 i z.1) in
       let ends : Code = block_end t f b bs ∷ blocks_code (point_item t f) t f bs in (
         map (point_item t f b) (drop (suc z.0) b.instrs) ++ ends,
         ap (λ u. cond u (block_rest t f b bs (instr_place i.id b.instrs)) (from_instr t f i.id bs)) there ∙ (ap (block_rest t f b bs) place ∙ ap (λ is. map (point_item t f b) is ++ ends) (drop-at b.instrs z.0 i z.1).0),
       )
   from-is b (c ∷ bs) i once (there m) mi =
-      let z = from-is b bs i (omega (arith, once, total-first i.id c bs)) m mi in
-      let none : id_count i.id c.instrs ≡ 0 = omega (arith, once, total-first i.id c bs, total-counted b bs i m mi) in
-      let past : has_instr i.id c ≡ false = not-below (instr_place i.id c.instrs) (length c.instrs) (no-place i.id c.instrs none) in
+      let z = from-is b bs i (omega (arith, once, total-step i.id c bs)) m mi in
+      let none : id_count i.id c.instrs ≡ 0 = omega (arith, once, total-step i.id c bs, total-counted b bs i m mi) in
+      let past : has_instr i.id c ≡ false = at-least (instr_place i.id c.instrs) (length c.instrs) (no-place i.id c.instrs none) in
       (z.0, ap (λ u. cond u (block_rest t f c bs (instr_place i.id c.instrs)) (from_instr t f i.id bs)) past ∙ z.1)
 
 known-of : (q : Option Effect) → passes (λ e. not (is_lowered_away e)) q ≡ true → (is_some q ≡ true) × (passes is_phi q ≡ false)

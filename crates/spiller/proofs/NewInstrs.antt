@@ -27,18 +27,11 @@ use Rattle.spiller.specs.Setting.{opcode, reload, store}
 use Rattle.spiller.specs.Rematerialised.{is_constant, repeated}
 use Rattle.spiller.specs.Planned.{known_op}
 use Rattle.spiller.proofs.PlaceEdits.{IsNew}
+use Rattle.spiller.proofs.Singles.{spill-effect, reload-effect}
 
 found : {X : Type 0} (p : X → Bool) (xs : List X) (n : ℕ) → position p xs ≡ Some n → (x : X) × (slice_get xs n ≡ Some x) × (p x ≡ true)
 found p [] n e = absurd (let h = position_within p [] n e in omega arith)
 found p (y ∷ ys) n e = let z = position-Some p (y ∷ ys) n y e in (get_or (y ∷ ys) n y, slice_get-get_or (y ∷ ys) n y z.0, z.1)
-
-spill-is : (e : Effect) → is_spill e ≡ true → e ≡ effects.Spill
-spill-is effects.Spill h = refl
-spill-is e h = absurd (cc)
-
-reload-is : (e : Effect) → is_reload e ≡ true → e ≡ effects.Reload
-reload-is effects.Reload h = refl
-reload-is e h = absurd (cc)
 
 -- an instruction whose opcode has an effect is of a known opcode
 pub op-of : (t : Target) (test : Effect → Bool) (i : Instr) → does test t i ≡ true → (op : OpId) × (i.op ≡ ops.Known op)
@@ -70,12 +63,12 @@ module _ (t : Target) where
   spill-moves : Moves effects.Spill (spill_place t)
   spill-moves k n e =
       let z = found (spills t.classes (regs_of t k)) t.opcodes n e in
-      (z.0, z.1, spill-is z.0.effect (first_of_both (is_spill z.0.effect) (is_within (regs_of t k) (operand_regs t.classes z.0)) z.2))
+      (z.0, z.1, spill-effect z.0.effect (first_of_both (is_spill z.0.effect) (is_within (regs_of t k) (operand_regs t.classes z.0)) z.2))
 
   reload-moves : Moves effects.Reload (reload_place t)
   reload-moves k n e =
       let z = found (reloads t.classes (regs_of t k)) t.opcodes n e in
-      (z.0, z.1, reload-is z.0.effect (first_of_both (is_reload z.0.effect) (is_within (regs_of t k) (operand_regs t.classes z.0)) z.2))
+      (z.0, z.1, reload-effect z.0.effect (first_of_both (is_reload z.0.effect) (is_within (regs_of t k) (operand_regs t.classes z.0)) z.2))
 
   -- whatever the class
   opcode-plain : (e : Effect) → is_phi e ≡ false → is_terminator e ≡ false → (place : ClassId → Option ℕ) → Moves e place → (k : Option ClassId) (os : List Operand) → IsPlain t (made 0 (opcode (option_and_then place k)) os)

@@ -7,6 +7,7 @@ use Rattle.target_base.specs.Registers.{IsClass}
 use Rattle.meaning.specs.Live.{Among, here, there}
 use Rattle.mir_func.specs.Value.{Function}
 use Rattle.mir_meaning.specs.Registers.{numbers}
+use Rattle.instr_effects.proofs.Tables.{numbers-long}
 use Rattle.live_lanes.specs.declared.live.LiveFunc.{LiveFunc}
 use Rattle.live_lanes.specs.Doing.{IsComputed}
 use Rattle.live_laws.specs.Effects.Coded.{KeepsRules}
@@ -40,12 +41,6 @@ length-take (suc k) [] h = absurd (omega (arith, h))
 length-take zero (x ∷ xs) h = refl
 length-take (suc k) (x ∷ xs) h = ap suc (length-take k xs (omega (arith, h)))
 
-pub take-whole : {X : Type 0} (k : ℕ) (xs : List X) → length xs ≤ k → take k xs ≡ xs
-take-whole zero [] h = refl
-take-whole (suc k) [] h = refl
-take-whole zero (x ∷ xs) h = absurd (omega (arith, h))
-take-whole (suc k) (x ∷ xs) h = ap (λ ys. x ∷ ys) (take-whole k xs (omega (arith, h)))
-
 pub take-none : {X : Type 0} (xs : List X) → take 0 xs ≡ []
 take-none [] = refl
 take-none (x ∷ xs) = refl
@@ -53,10 +48,6 @@ take-none (x ∷ xs) = refl
 numbers-suc : (n k : ℕ) → numbers n k ++ (n + k) ∷ [] ≡ numbers n (suc k)
 numbers-suc n zero = let e : n + 0 ≡ n = omega arith in ap (λ m. m ∷ []) e
 numbers-suc n (suc k) = let e : n + suc k ≡ suc n + k = omega arith in ap (λ m. n ∷ (numbers (suc n) k ++ m ∷ [])) e ∙ ap (λ ms. n ∷ ms) (numbers-suc (suc n) k)
-
-length-numbers : (n k : ℕ) → length (numbers n k) ≡ k
-length-numbers n zero = refl
-length-numbers n (suc k) = ap suc (length-numbers (suc n) k)
 
 some-same : (k j : ClassId) → ◌≡◌ {A = Option ClassId} (Some k) (Some j) → k ≡ j
 some-same k j e = cc
@@ -118,7 +109,7 @@ module _ (old : LiveFunc) (slots : Slots) (cs : List (Option ClassId)) (may : Ma
   -- the slot map with one more range
   one-original : (k n : ℕ) → n ≡ length old.func.classes + k → with_original (with_ranges slots k) n n ≡ with_ranges slots (suc k)
   one-original k n e =
-      let count : length (slots.originals ++ numbers (length slots.originals) k) ≡ n = omega (arith, length-append slots.originals (numbers (length slots.originals) k), length-numbers (length slots.originals) k, e, may.originals) in
+      let count : length (slots.originals ++ numbers (length slots.originals) k) ≡ n = omega (arith, length-append slots.originals (numbers (length slots.originals) k), numbers-long (length slots.originals) k, e, may.originals) in
       let next : n ≡ length slots.originals + k = omega (arith, e, may.originals) in
       ap (λ u. cond u (record slots { originals = (slots.originals ++ numbers (length slots.originals) k) ++ n ∷ [] }) (with_ranges slots k)) (eq-eqb n (length (slots.originals ++ numbers (length slots.originals) k)) (sym count))
       ∙ ap (λ ns. record slots { originals = ns }) (append_assoc slots.originals (numbers (length slots.originals) k) (n ∷ []) ∙ ap (λ ms. slots.originals ++ ms) (ap (λ m. numbers (length slots.originals) k ++ m ∷ []) next ∙ numbers-suc (length slots.originals) k))

@@ -1,5 +1,5 @@
 -- Where no instruction that touches the range can be repeated, nothing is rematerialised.
-use Rattle.std.proofs.Common.{◌≡◌, ◌∙◌, ℕ, Bool, true, false, cond, ◌&&◌, List, [], ◌∷◌, Option, Some, None, filter, flat_map, length, map, refl, sym, ap, subst}
+use Rattle.std.proofs.Common.{◌≡◌, ◌∙◌, ℕ, true, false, cond, ◌&&◌, List, [], ◌∷◌, Option, Some, None, filter, flat_map, length, map, refl, sym, ap, subst}
 use Rattle.std.specs.Prelude.{find, nat_lt, option_map}
 use Rattle.std.specs.List.{list_all, list_any}
 use Rattle.target_base.specs.declared.types.Target.{Target}
@@ -20,25 +20,13 @@ use Rattle.spiller.specs.MaySpill.{MaySpill}
 use Rattle.spiller.specs.Planned.{TellsRemat, copy_key, way_key}
 use Rattle.spiller.specs.Reaching.{AreFacts, Facts}
 use Rattle.spiller.specs.Readings.{goes_in, same_key, source_in}
-use Rattle.spiller.specs.Rematerialised.{Holding, Never, Reading, Wish, Within, all_readings, copy_reading, if_serves, is_constant, is_needless, is_rematerialised, reaches, reaching, repeatable_class, repeated_for, serves, way_reading, whole_class}
+use Rattle.spiller.specs.Rematerialised.{Reading, all_readings, copy_reading, if_serves, is_constant, is_needless, is_rematerialised, reaches, reaching, repeatable_class, repeated_for, serves, way_reading, whole_class}
 use Rattle.spiller.specs.Setting.{Spilling}
 use Rattle.spiller.specs.Spilled.{place_name}
 use Rattle.spiller.specs.Views.{spilling_of}
 use Rattle.spiller.proofs.ReachesTold.{reached-lane}
-
-some-member : {X : Type 0} (xs : List X) → nat_lt 0 (length xs) ≡ true → (x : X) × Member x xs
-some-member [] h = absurd (cc)
-some-member (x ∷ xs) h = (x, first)
-
-is-false : (b : Bool) → (b ≡ true → ⊥) → b ≡ false
-is-false true n = absurd (n refl)
-is-false false n = refl
-
-pub none-serves : (t : Target) (wish : Wish) → serves t wish None ≡ false
-none-serves t Never = refl
-none-serves t (Within None) = refl
-none-serves t (Within (Some c)) = refl
-none-serves t (Holding r) = refl
+use Rattle.spiller.proofs.Basics.{is-false, some-member}
+use Rattle.spiller.proofs.ChangeFits.{nothing-serves}
 
 module _ (view : SpillView) (may : MaySpill view.target.now view.live.now.func view.live.now.table view.v) (ids : List ℕ) (are : AreTouched view.live.now.table view.v ids) (slot : ℕ) (facts : Facts) (tell : AreFacts view.target.now view.live.now.func view.v facts)
     (plain : (b : Block) (i : Instr) → Member b view.live.now.func.blocks → Member i b.instrs → has i.id ids ≡ true → does is_constant view.target.now i ≡ false) where
@@ -76,7 +64,7 @@ module _ (view : SpillView) (may : MaySpill view.target.now view.live.now.func v
       by [] h = refl
       by (d ∷ []) h =
           let no : repeatable_class t d ≡ None = ap (λ b. cond b (whole_class t d d.operands) None) (h d first) in
-          ap (λ b. cond b (Some d) None) (ap (serves t r.wish) no ∙ none-serves t r.wish)
+          ap (λ b. cond b (Some d) None) (ap (serves t r.wish) no ∙ nothing-serves t r.wish)
       by (d ∷ c ∷ es) h = refl
 
   none-goes : (b : Block) (i : Instr) → Member b f.blocks → Member i b.instrs → is_needless s i ≡ false

@@ -2,7 +2,7 @@
 use Rattle.std.proofs.Common.{◌≡◌, ◌∙◌, ℕ, suc, Bool, true, false, cond, not, ◌&&◌, ◌||◌, List, [], ◌∷◌, ◌++◌, Option, Some, None, map, refl, sym, ap, subst, eqb-true}
 use Rattle.std.specs.Prelude.{filter, filter_map, find, flat_map, nat_eq}
 use Rattle.std.specs.List.{AllByRecursion, cons_option, list_all, list_any}
-use Rattle.std.proofs.lemmas.List.Elements.{filter_map-append}
+use Rattle.std.proofs.lemmas.List.Elements.{filter_map-append, filter-append}
 use Rattle.std.proofs.lemmas.List.{append-nil}
 use Rattle.target_base.specs.declared.types.Role.{Role}
 use Rattle.target_base.specs.declared.types.Target.{Target}
@@ -209,14 +209,6 @@ pub plain-uses : (s : Spilling) (i : Instr) → implicit_last i.operands ≡ tru
 plain-uses s i last fixed =
     of-bound s.target s.func s.range (has_tied_use s.target i) 0 (bound s.target i)
     ∙ told-in-order (own_use s.target s.func s.range) (use-skips s.target s.func s.range) s.target i last fixed
-
-filter-append : {X : Type 0} (p : X → Bool) (xs ys : List X) → filter p (xs ++ ys) ≡ filter p xs ++ filter p ys
-filter-append p [] ys = refl
-filter-append {X = X} p (x ∷ xs) ys = go (p x) (filter-append p xs ys)
-  where
-    go : (b : Bool) → filter p (xs ++ ys) ≡ filter p xs ++ filter p ys → cond b (x ∷ filter p (xs ++ ys)) (filter p (xs ++ ys)) ≡ cond b (x ∷ filter p xs) (filter p xs) ++ filter p ys
-    go true h = ap (λ zs. x ∷ zs) h
-    go false h = h
 
 all-uses : (s : Spilling) (is : List Instr) → AllByRecursion IsPlainForm is → filter is_plain (flat_map (own_variables s) is) ≡ flat_map (own_uses s.target s.func s.range) is
 all-uses s [] h = refl

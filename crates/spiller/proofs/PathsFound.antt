@@ -48,6 +48,8 @@ use Rattle.live_laws.proofs.Effects.Moving.{some-same}
 use Rattle.live_laws.proofs.Touch.Cells.{or-cases, or-right}
 use Rattle.spiller.proofs.Walking.{has-join}
 use Rattle.spiller.proofs.CodePlaces.{rest_code, block-found, instr-found, same-position, same-ends}
+use Rattle.spiller.proofs.Basics.{is-false, tails}
+use Rattle.spiller.proofs.ListSeats.{get-seat}
 
 -- lists and tests
 
@@ -58,10 +60,6 @@ leaving-by false out e m = absurd (member-none e m)
 shifted : {X : Type 0} (xs : List X) (x : X) (ys : List X) → (xs ++ x ∷ []) ++ ys ≡ xs ++ x ∷ ys
 shifted [] x ys = refl
 shifted (z ∷ xs) x ys = ap (λ zs. z ∷ zs) (shifted xs x ys)
-
-at-front : {X : Type 0} (xs : List X) (x : X) (ys : List X) → slice_get (xs ++ x ∷ ys) (length xs) ≡ Some x
-at-front [] x ys = refl
-at-front (z ∷ xs) x ys = at-front xs x ys
 
 past-front : {X : Type 0} (xs ys : List X) → drop (length xs) (xs ++ ys) ≡ ys
 past-front [] ys = refl
@@ -81,13 +79,6 @@ behind-in (y ∷ front) o rest i m = let z = behind-in front o rest i m in (suc 
 
 heads : {X : Type 0} (a b : X) (xs ys : List X) → a ∷ xs ≡ b ∷ ys → a ≡ b
 heads a b xs ys e = cc
-
-tails : {X : Type 0} (a b : X) (xs ys : List X) → a ∷ xs ≡ b ∷ ys → xs ≡ ys
-tails a b xs ys e = cc
-
-is-false : (b : Bool) → (b ≡ true → ⊥) → b ≡ false
-is-false true n = absurd (n refl)
-is-false false n = refl
 
 pub keeps-head : (w r : Bool) → not (w || r) ≡ true → (w ≡ false) × (not r ≡ true)
 keeps-head true r e = absurd (cc)
@@ -111,7 +102,7 @@ pub part-more : (f : Function) (y : ℕ) (b : Block) (i : Instr) (is : List Inst
 part-more f y b i is p = record { stands = p.stands; front = p.front ++ i ∷ []; whole = shifted p.front i is ∙ p.whole }
 
 part-at : (f : Function) (y : ℕ) (b : Block) (i : Instr) (is : List Instr) (p : Part f y b (i ∷ is)) → slice_get b.instrs (length p.front) ≡ Some i
-part-at f y b i is p = ap (λ js. slice_get js (length p.front)) (sym p.whole) ∙ at-front p.front i is
+part-at f y b i is p = ap (λ js. slice_get js (length p.front)) (sym p.whole) ∙ get-seat p.front i is
 
 pub part-in : (f : Function) (y : ℕ) (b : Block) (i : Instr) (is : List Instr) → Part f y b (i ∷ is) → Member i b.instrs
 part-in f y b i is p = slice-member b.instrs (length p.front) i (part-at f y b i is p)

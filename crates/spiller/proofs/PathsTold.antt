@@ -23,18 +23,13 @@ use Rattle.live_lanes.specs.declared.table.Table.{Table}
 use Rattle.live_laws.specs.Effects.Coded.{one_on, spot_in}
 use Rattle.live_laws.proofs.Acts.Told.{acts-law}
 use Rattle.live_laws.proofs.Exact.Inside.{inside-law}
+use Rattle.phi_elim.proofs.Walks.{drop_all}
 use Rattle.spiller.specs.MaySpill.{MaySpill}
 use Rattle.spiller.specs.Reaching.{AreFacts, Brings, Facts, Leads, Reaches, Reads, leaps, passes, stays}
 use Rattle.spiller.proofs.Told.{Chain, Told, more, one, told-both, told-by, told-chain, told-either, told-no, told-not, told-number, told-some, told-true}
+use Rattle.spiller.proofs.Basics.{drop-none, tails}
 
 -- ends of a list by their places
-
-drop-none : {X : Type 0} (xs : List X) → drop 0 xs ≡ xs
-drop-none [] = refl
-drop-none (x ∷ xs) = refl
-
-tails : {X : Type 0} (a b : X) (xs ys : List X) → a ∷ xs ≡ b ∷ ys → xs ≡ ys
-tails a b xs ys e = cc
 
 drop-next : {X : Type 0} (x : X) (r : List X) (p : ℕ) (xs : List X) → x ∷ r ≡ drop p xs → r ≡ drop (suc p) xs
 drop-next x r zero [] e = absurd (cc)
@@ -53,18 +48,12 @@ drop-long p [] h = absurd (omega (arith, h))
 drop-long zero (x ∷ xs) h = omega arith
 drop-long (suc p) (x ∷ xs) h = omega (arith, drop-long p xs (omega (arith, h)))
 
-drop-past : {X : Type 0} (p : ℕ) (xs : List X) → length xs ≤ p → drop p xs ≡ []
-drop-past zero [] h = refl
-drop-past (suc p) [] h = refl
-drop-past zero (x ∷ xs) h = absurd (omega (arith, h))
-drop-past (suc p) (x ∷ xs) h = drop-past p xs (omega (arith, h))
-
 drop-same : {X : Type 0} (p q : ℕ) (xs : List X) → drop p xs ≡ drop q xs → q < length xs → p ≡ q
 drop-same p q xs e h = go (nat_lt p (length xs)) refl
   where
     go : (b : Bool) → nat_lt p (length xs) ≡ b → p ≡ q
     go true k = omega (arith, drop-long p xs (ltb-true p (length xs) k), drop-long q xs h, ap length e)
-    go false k = absurd (omega (arith, ap length (sym e ∙ drop-past p xs (ltb-false p (length xs) k)), drop-long q xs h, h))
+    go false k = absurd (omega (arith, ap length (sym e ∙ drop_all p xs (ltb-false p (length xs) k)), drop-long q xs h, h))
 
 -- whether an item writes a lane of a range
 

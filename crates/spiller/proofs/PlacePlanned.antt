@@ -1,5 +1,5 @@
 -- What is planned for a place with tinies, in its steps, is what its change plans.
-use Rattle.std.proofs.Common.{◌≡◌, ◌∙◌, ℕ, ◌+◌, suc, List, [], ◌∷◌, ◌++◌, Option, flat_map, length, map, refl, sym, ap, subst}
+use Rattle.std.proofs.Common.{◌≡◌, ◌∙◌, ℕ, ◌+◌, List, [], ◌∷◌, ◌++◌, Option, flat_map, length, map, refl, sym, ap, subst}
 use Rattle.std.specs.List.{AllByRecursion}
 use Rattle.std.proofs.lemmas.List.{append-nil, map-append, length-map}
 use Rattle.target_base.specs.declared.types.ClassId.{ClassId}
@@ -27,10 +27,7 @@ use Rattle.spiller.proofs.TiedUses.{tied-are}
 use Rattle.spiller.proofs.Placed.{all-given, definitions-are, edits-are, none-anew, stores-are, ways-kept}
 use Rattle.spiller.proofs.Changes.{assembled}
 use Rattle.spiller.proofs.Known.{IsDefinedIn, all-defined}
-
-length-numbered : {X : Type 0} (n : ℕ) (xs : List X) → length (numbered n xs) ≡ length xs
-length-numbered n [] = refl
-length-numbered n (x ∷ xs) = ap suc (length-numbered (suc n) xs)
+use Rattle.spiller.proofs.Steps.{length-numbered}
 
 -- the tinies of ways and of definitions, each with the name of the place
 

@@ -3,9 +3,10 @@ use Rattle.std.proofs.Common.{◌≡◌, ◌∙◌, ◌⊎◌, ℕ, zero, suc, �
 use Rattle.std.specs.Prelude.{◌↔◌, nat_eq, slice_get, slice_index}
 use Rattle.std.specs.List.{list_any}
 use Rattle.std.proofs.lemmas.Bool.{eq-eqb}
-use Rattle.std.proofs.lemmas.List.{map-append}
+use Rattle.std.proofs.lemmas.List.{map-append, append-nil}
 use Rattle.std.proofs.lemmas.List.Elements.{filter-append}
 use Rattle.target_base.specs.declared.types.Target.{Target}
+use Rattle.target_base.proofs.Tests.{first_of_both, second_of_both}
 use Rattle.meaning.specs.declared.types.Lane.{Lane}
 use Rattle.meaning.specs.declared.types.Lane.TheVariants.{VirtualLane}
 use Rattle.meaning.specs.Code.{Edge, Item, Code, found}
@@ -19,6 +20,7 @@ use Rattle.mir_meaning.specs.Points.{AtFirst, Tests, point_item, points_of, from
 use Rattle.mir_meaning.specs.Paths.{has}
 use Rattle.instr_effects.specs.Numbered.{number_in}
 use Rattle.instr_effects.proofs.Members.{map-of, filter-of, flat-of, right-in}
+use Rattle.instr_effects.proofs.Tables.{slice-left}
 use Rattle.live_lanes.specs.declared.table.Table.{Table}
 use Rattle.live_lanes.specs.Extents.{lanes_count}
 use Rattle.live_lanes.specs.Looks.{InOrder}
@@ -26,7 +28,8 @@ use Rattle.live_lanes.specs.Ordered.{ids_of, AreRising}
 use Rattle.live_lanes.specs.Tells.{TellsInstrs, touching_ids}
 use Rattle.live_lanes.specs.Touching.{AreTouched, names_range}
 use Rattle.live_lanes.specs.Ways.{successors}
-use Rattle.live_lanes.proofs.Finding.{stands-there}
+use Rattle.live_lanes.proofs.Finding.{stands-there, found-within}
+use Rattle.live_lanes.proofs.Cells.{both}
 use Rattle.live_laws.specs.Acts.{TellsActs}
 use Rattle.live_laws.specs.Effects.Coded.{KeepsRules}
 use Rattle.live_laws.proofs.Acts.Told.{acts-law}
@@ -49,43 +52,10 @@ use Rattle.spiller.proofs.CodePlaces.{at-id}
 use Rattle.spiller.proofs.PathsFound.{Part, leads-from, from-leads, numbered, orderly, part-code, part-more, place, reads-told, writes-told, ends-at}
 use Rattle.spiller.proofs.Untouched.{written-lane, unnamed-reads, unnamed-writes}
 use Rattle.spiller.proofs.WalkFound.{found-from, from-found, entered-block}
+use Rattle.spiller.proofs.Basics.{is-false, map-both}
+use Rattle.spiller.proofs.ListSeats.{get-seat}
 
 -- lists
-
-within-list : {X : Type 0} (xs : List X) (j : ℕ) (y : X) → slice_get xs j ≡ Some y → j < length xs
-within-list [] j y e = absurd (cc)
-within-list (x ∷ xs) zero y e = omega arith
-within-list (x ∷ xs) (suc j) y e = omega (arith, within-list xs j y e)
-
-front-of : {X : Type 0} (xs ys : List X) (j : ℕ) (y : X) → slice_get xs j ≡ Some y → slice_get (xs ++ ys) j ≡ Some y
-front-of [] ys j y e = absurd (cc)
-front-of (x ∷ xs) ys zero y e = e
-front-of (x ∷ xs) ys (suc j) y e = front-of xs ys j y e
-
-at-front : {X : Type 0} (xs : List X) (x : X) (ys : List X) → slice_get (xs ++ x ∷ ys) (length xs) ≡ Some x
-at-front [] x ys = refl
-at-front (z ∷ xs) x ys = at-front xs x ys
-
-is-false : (b : Bool) → (b ≡ true → ⊥) → b ≡ false
-is-false true n = absurd (n refl)
-is-false false n = refl
-
-left-of : (a b : Bool) → (a && b) ≡ true → a ≡ true
-left-of true b h = refl
-left-of false b h = absurd (cc)
-
-right-of : (a b : Bool) → (a && b) ≡ true → b ≡ true
-right-of true b h = h
-right-of false b h = absurd (cc)
-
-both-of : (a b : Bool) → a ≡ true → b ≡ true → (a && b) ≡ true
-both-of true true e h = refl
-both-of false b e h = absurd (cc)
-both-of true false e h = absurd (cc)
-
-none-behind : {X : Type 0} (xs : List X) → xs ++ [] ≡ xs
-none-behind [] = refl
-none-behind (x ∷ xs) = ap (λ ys. x ∷ ys) (none-behind xs)
 
 -- the ids of those that pass a test, as far as these pass another
 
@@ -139,14 +109,10 @@ block-ids v homes (c ∷ cs) n m y b homed e g =
         let same = some-same c b g in
         ap (λ xs. xs ++ filter p (map (λ (i : Instr). i.id) (filter (touches v) (flat_map (λ (d : Block). d.instrs) cs)))) (all-pass p (touches v) c.instrs (λ i k. same-test _ _ (home-here i k ∙ sym e)))
         ∙ (ap (λ xs. map (λ (i : Instr). i.id) (filter (touches v) c.instrs) ++ xs) (none-pass p (touches v) (flat_map (λ (d : Block). d.instrs) cs) (λ i k. other-test _ _ (λ h. let z = home-later i k in let u = z.1 in absurd (omega arith))))
-        ∙ (none-behind (map (λ (i : Instr). i.id) (filter (touches v) c.instrs)) ∙ ap (λ (d : Block). map (λ (i : Instr). i.id) (filter (touches v) d.instrs)) same))
+        ∙ (append-nil (map (λ (i : Instr). i.id) (filter (touches v) c.instrs)) ∙ ap (λ (d : Block). map (λ (i : Instr). i.id) (filter (touches v) d.instrs)) same))
     go (suc z) e g ih =
         ap (λ xs. xs ++ filter p (map (λ (i : Instr). i.id) (filter (touches v) (flat_map (λ (d : Block). d.instrs) cs)))) (none-pass p (touches v) c.instrs (λ i k. other-test _ _ (λ h. let u = home-here i k in absurd (omega arith))))
         ∙ ih z (e ∙ omega arith) g
-
-map-map : {X Y Z : Type 0} (g : Y → Z) (h : X → Y) (xs : List X) → map g (map h xs) ≡ map (λ x. g (h x)) xs
-map-map g h [] = refl
-map-map g h (x ∷ xs) = ap (λ ys. g (h x) ∷ ys) (map-map g h xs)
 
 -- a reading that is seen is by one of the instructions
 seen-member : (x : Table) (v k i : ℕ) (is : List Instr) → has i (seen (map (λ j. touch_of x v k j.id) is)) ≡ true → (o : Instr) × Member o is × (o.id ≡ i) × ((touch_of x v k o.id).reads ≡ true)
@@ -269,7 +235,7 @@ module _ (t : Target) (f : Function) (x : Table) (v : ℕ) (may : MaySpill t f x
     block-touches y b e =
         ap (λ is. touches_in x v k is y) ids-are
         ∙ (ap (map (touch_of x v k)) (block-ids v x.order.block_of.items f.blocks 0 y y b (λ q c id h g. may.computed.homes q c id h g ∙ omega arith) (omega arith) e)
-        ∙ map-map (touch_of x v k) (λ (i : Instr). i.id) (filter (touches v) b.instrs))
+        ∙ map-both (touch_of x v k) (λ (i : Instr). i.id) (filter (touches v) b.instrs))
 
     -- behind a touched instruction
     rest-is : (front : List Instr) (d : Instr) (is : List Instr) → touches v d ≡ true → ((c : Instr) → Member c front → c.id ≡ d.id → ⊥) → rest_behind d.id (doing (filter (touches v) (front ++ d ∷ is))) ≡ doing (filter (touches v) is)
@@ -291,10 +257,10 @@ module _ (t : Target) (f : Function) (x : Table) (v : ℕ) (may : MaySpill t f x
     apart-front : (y : ℕ) (b : Block) (d : Instr) (is : List Instr) (p : Part f y b (d ∷ is)) (c : Instr) → Member c p.front → c.id ≡ d.id → ⊥
     apart-front y b d is p c m same =
         let q = member-slice c p.front m in
-        let at-c : slice_get b.instrs q.0 ≡ Some c = ap (λ js. slice_get js q.0) (sym p.whole) ∙ front-of p.front (d ∷ is) q.0 c q.1 in
-        let at-d : slice_get b.instrs (length p.front) ≡ Some d = ap (λ js. slice_get js (length p.front)) (sym p.whole) ∙ at-front p.front d is in
+        let at-c : slice_get b.instrs q.0 ≡ Some c = ap (λ js. slice_get js q.0) (sym p.whole) ∙ slice-left p.front (d ∷ is) q.0 c q.1 in
+        let at-d : slice_get b.instrs (length p.front) ≡ Some d = ap (λ js. slice_get js (length p.front)) (sym p.whole) ∙ get-seat p.front d is in
         let one : q.0 ≡ length p.front = one-spot b q.0 (length p.front) c d (ranked y b p.stands) at-c at-d same in
-        absurd (omega (arith, within-list p.front q.0 c q.1))
+        absurd (omega (arith, found-within p.front q.0 c q.1))
 
     -- an instruction of a block, with those behind it
     part-of : (y : ℕ) (b : Block) (i : Instr) → slice_get f.blocks y ≡ Some b → Member i b.instrs → (is : List Instr) × Part f y b (i ∷ is)
@@ -323,7 +289,7 @@ module _ (t : Target) (f : Function) (x : Table) (v : ℕ) (may : MaySpill t f x
 
     module _ (flow : LaneFlow) (is-flow : IsFlow x f.blocks v ids flow) (lane : flow.lane ≡ k) where
       touches-are : (q : ℕ) (c : Block) → slice_get f.blocks q ≡ Some c → touches_at flow.blocks.items q ≡ doing (filter (touches v) c.instrs)
-      touches-are q c e = is-flow.blocks tells.ordered tells.reads q (within-list f.blocks q c e) ∙ (ap (λ l. touches_in x v l ids q) lane ∙ block-touches q c e)
+      touches-are q c e = is-flow.blocks tells.ordered tells.reads q (found-within f.blocks q c e) ∙ (ap (λ l. touches_in x v l ids q) lane ∙ block-touches q c e)
 
       seen-same : (q : ℕ) (c : Block) → slice_get f.blocks q ≡ Some c → seen (touches_at flow.blocks.items q) ≡ seen (doing c.instrs)
       seen-same q c e = ap seen (touches-are q c e) ∙ seen-filtered c.instrs (in-block q c e)
@@ -471,8 +437,8 @@ module _ (t : Target) (f : Function) (x : Table) (v : ℕ) (may : MaySpill t f x
     told-forth : (d k i : ℕ) → told_by ds (d, k, i) ≡ true → Reaches t f v d k i
     told-forth d k i h =
         let z = any-of (λ (a : Definition). nat_eq a.id d && lists a.reached.items k i) ds h in
-        let same = eqb-true z.0.id d (left-of _ _ z.2) in
-        let y = (each z.0 z.1 k i).0 (right-of (nat_eq z.0.id d) _ z.2) in
+        let same = eqb-true z.0.id d (first_of_both _ _ z.2) in
+        let y = (each z.0 z.1 k i).0 (second_of_both (nat_eq z.0.id d) _ z.2) in
         subst (λ n. Reaches t f v n k i) same (flow-reaches k y.0 (all.each y.0 y.1) y.2 z.0.id i y.3)
 
     told-back : (d k i : ℕ) → Reaches t f v d k i → told_by ds (d, k, i) ≡ true
@@ -482,7 +448,7 @@ module _ (t : Target) (f : Function) (x : Table) (v : ℕ) (may : MaySpill t f x
         let z = map-of (λ (a : Definition). a.id) d ds (subst (Member d) (sym named) (has-member d ids (are.named d ∙ below.1))) in
         let to = reaches-flow k y.0 (all.each y.0 y.1) y.2 d i h in
         any-in (λ (a : Definition). nat_eq a.id d && lists a.reached.items k i) z.0 ds z.1
-        (both-of _ _ (same-test z.0.id d (sym z.2)) ((each z.0 z.1 k i).1 (y.0, y.1, y.2, subst (λ n. FlowsTo x v y.0 n i) z.2 to)))
+        (both _ _ (same-test z.0.id d (sym z.2)) ((each z.0 z.1 k i).1 (y.0, y.1, y.2, subst (λ n. FlowsTo x v y.0 n i) z.2 to)))
 
     pub all-told : Tests (λ (p : ℕ × ℕ × ℕ). Reaches t f v p.0 p.1 p.2) (told_by ds)
     all-told p = (told-forth p.0 p.1 p.2, told-back p.0 p.1 p.2)

@@ -1,7 +1,7 @@
 -- The places of instructions whose readings are listed.
-use Rattle.std.proofs.Common.{◌≡◌, ◌∙◌, ℕ, ◌+◌, ◌≤◌, zero, suc, Bool, true, false, cond, not, ◌&&◌, ◌||◌, List, [], ◌∷◌, ◌++◌, Option, Some, None, drop, take, length, map, refl, sym, ap, subst, arith, one-add, eq-eqb, eqb-true}
-use Rattle.std.specs.Prelude.{filter, find, nat_eq, position, slice_get, slice_index}
-use Rattle.std.specs.List.{AllByRecursion, list_all, list_any, position_or_len}
+use Rattle.std.proofs.Common.{◌≡◌, ◌∙◌, ℕ, ◌≤◌, zero, suc, Bool, true, false, cond, not, ◌&&◌, ◌||◌, List, [], ◌∷◌, ◌++◌, Option, Some, None, take, map, refl, sym, ap, subst, eq-eqb, eqb-true}
+use Rattle.std.specs.Prelude.{filter, find, nat_eq, slice_get, slice_index}
+use Rattle.std.specs.List.{AllByRecursion, list_all, list_any}
 use Rattle.target_base.specs.declared.types.Effect.{Effect}
 use Rattle.target_base.specs.declared.types.Effect.TheVariants as effects
 use Rattle.target_base.specs.declared.types.Target.{Target}
@@ -14,19 +14,20 @@ use Rattle.mir_func.specs.declared.func.RegOp.{RegOp}
 use Rattle.mir_func.specs.declared.func.Block.{Block}
 use Rattle.mir_func.specs.Value.{Function}
 use Rattle.mir_func.specs.Binding.{does, effect_of, is_lowered_away, is_terminator, is_virtual, passes}
-use Rattle.mir_func.proofs.Places.{position_or_len-le, position-None_is}
 use Rattle.mir_meaning.specs.Rules.{V8, copy_fits, implicit_def_fits, implicit_last}
 use Rattle.instr_effects.proofs.Members.{member-elim, member-none}
 use Rattle.live_lanes.specs.declared.table.Table.{Table}
+use Rattle.live_lanes.proofs.Certain.{not-true}
 use Rattle.live_laws.specs.Effects.Shaped.{IsShaped}
 use Rattle.live_laws.proofs.Effects.Lists.{all-of}
 use Rattle.live_laws.proofs.Touch.Roles.{met}
 use Rattle.lowering_laws.proofs.BlockRules.{ordered}
 use Rattle.spiller.specs.MaySpill.{MaySpill}
-use Rattle.spiller.specs.Listed.{ends_in, place_at}
+use Rattle.spiller.specs.Listed.{place_at}
 use Rattle.spiller.specs.Placing.{AreFixed, IsPlainForm}
 use Rattle.spiller.specs.Rematerialised.{places_from}
 use Rattle.spiller.proofs.Known.{plain-form}
+use Rattle.spiller.specs.Ends.{ends_of}
 
 -- behind a terminator stand terminators only
 
@@ -54,7 +55,7 @@ module _ (t : Target) where
       go false e ih = ih (λ j i q. subst (λ b. (ends i || not (b || list_any ends (take j is))) ≡ true) e (h (suc j) i q))
 
   abbrev place_in : List Instr → Instr → List Instr
-  place_in is i = cond (ends i) (ends_in t is) (i ∷ [])
+  place_in is i = cond (ends i) (ends_of t is) (i ∷ [])
 
   -- a place with an instruction is the place of that instruction
   pub place-of : (is p : List Instr) (i : Instr) → ordered t is ≡ true → Member p (places_from t is) → Member i p → p ≡ place_in is i
@@ -62,7 +63,7 @@ module _ (t : Target) where
   place-of (j ∷ is) p i o m k = go (ends j) refl o m (λ e q. place-of is p i e q k)
     where
       Is : Bool → Type 0
-      Is b = p ≡ cond (ends i) (cond b (j ∷ is) (ends_in t is)) (i ∷ [])
+      Is b = p ≡ cond (ends i) (cond b (j ∷ is) (ends_of t is)) (i ∷ [])
 
       go : (b : Bool) → ends j ≡ b → cond b (list_all ends is) (ordered t is) ≡ true → Member p (cond b ((j ∷ is) ∷ []) ((j ∷ []) ∷ places_from t is)) → (ordered t is ≡ true → Member p (places_from t is) → p ≡ place_in is i) → Is b
       go true e q n more =
@@ -73,7 +74,7 @@ module _ (t : Target) where
           member-elim p (j ∷ []) (places_from t is)
           (λ h.
           member-elim i j []
-          (λ same. let none : ends i ≡ false = ap ends same ∙ e in h ∙ (ap (λ x. x ∷ []) (sym same) ∙ sym (ap (λ b. cond b (ends_in t is) (i ∷ [])) none)))
+          (λ same. let none : ends i ≡ false = ap ends same ∙ e in h ∙ (ap (λ x. x ∷ []) (sym same) ∙ sym (ap (λ b. cond b (ends_of t is) (i ∷ [])) none)))
           (λ w. absurd (member-none i w)) (subst (Member i) h k))
           (more q) n
 
@@ -83,28 +84,28 @@ module _ (t : Target) where
   place-there (j ∷ is) i o m = go (ends j) refl o (λ e k. place-there is i e k)
     where
       There : Bool → Type 0
-      There b = Member (cond (ends i) (cond b (j ∷ is) (ends_in t is)) (i ∷ [])) (cond b ((j ∷ is) ∷ []) ((j ∷ []) ∷ places_from t is))
+      There b = Member (cond (ends i) (cond b (j ∷ is) (ends_of t is)) (i ∷ [])) (cond b ((j ∷ is) ∷ []) ((j ∷ []) ∷ places_from t is))
 
       go : (b : Bool) → ends j ≡ b → cond b (list_all ends is) (ordered t is) ≡ true → (ordered t is ≡ true → Member i is → Member (place_in is i) (places_from t is)) → There b
       go true e q more = let yes : ends i ≡ true = all-of ends i (j ∷ is) m (λ r. e r && q r) in subst (λ b. Member (cond b (j ∷ is) (i ∷ [])) ((j ∷ is) ∷ [])) (sym yes) first
       go false e q more =
           member-elim i j is
-          (λ same. let none : ends i ≡ false = ap ends same ∙ e in subst (λ b. Member (cond b (ends_in t is) (i ∷ [])) ((j ∷ []) ∷ places_from t is)) (sym none) (subst (λ x. Member (i ∷ []) ((x ∷ []) ∷ places_from t is)) same first))
+          (λ same. let none : ends i ≡ false = ap ends same ∙ e in subst (λ b. Member (cond b (ends_of t is) (i ∷ [])) ((j ∷ []) ∷ places_from t is)) (sym none) (subst (λ x. Member (i ∷ []) ((x ∷ []) ∷ places_from t is)) same first))
           (λ k. later (more q k)) m
 
   -- with the instruction
   pub in-place : (is : List Instr) (i : Instr) → Member i is → Member i (place_in is i)
   in-place is i m = go (ends i) refl
     where
-      among : (js : List Instr) → ends i ≡ true → Member i js → Member i (ends_in t js)
+      among : (js : List Instr) → ends i ≡ true → Member i js → Member i (ends_of t js)
       among [] e k = absurd (member-none i k)
       among (j ∷ js) e k = step (ends j) refl (among js e)
         where
-          step : (b : Bool) → ends j ≡ b → (Member i js → Member i (ends_in t js)) → Member i (cond b (j ∷ js) (ends_in t js))
+          step : (b : Bool) → ends j ≡ b → (Member i js → Member i (ends_of t js)) → Member i (cond b (j ∷ js) (ends_of t js))
           step true f ih = k
           step false f ih = member-elim i j js (λ same. absurd (let z : true ≡ false = sym e ∙ (ap ends same ∙ f) in cc)) ih k
 
-      go : (b : Bool) → ends i ≡ b → Member i (cond b (ends_in t is) (i ∷ []))
+      go : (b : Bool) → ends i ≡ b → Member i (cond b (ends_of t is) (i ∷ []))
       go true e = among is e m
       go false e = first
 
@@ -112,39 +113,24 @@ module _ (t : Target) where
   pub of-block : (is : List Instr) (i j : Instr) → Member i is → Member j (place_in is i) → Member j is
   of-block is i j m k = go (ends i) k
     where
-      back : (js : List Instr) → Member j (ends_in t js) → Member j js
+      back : (js : List Instr) → Member j (ends_of t js) → Member j js
       back [] h = h
       back (x ∷ js) h = step (ends x) h (back js)
         where
-          step : (b : Bool) → Member j (cond b (x ∷ js) (ends_in t js)) → (Member j (ends_in t js) → Member j js) → Member j (x ∷ js)
+          step : (b : Bool) → Member j (cond b (x ∷ js) (ends_of t js)) → (Member j (ends_of t js) → Member j js) → Member j (x ∷ js)
           step true g ih = g
           step false g ih = later (ih g)
 
-      go : (b : Bool) → Member j (cond b (ends_in t is) (i ∷ [])) → Member j is
+      go : (b : Bool) → Member j (cond b (ends_of t is) (i ∷ [])) → Member j is
       go true h = back is h
       go false h = member-elim j i [] (λ same. subst (λ x. Member x is) (sym same) m) (λ w. absurd (member-none j w)) h
 
-pub none-past : {X : Type 0} (p : X → Bool) (xs : List X) → None ≡ position p xs → length xs ≡ position_or_len p xs
-none-past p xs e = omega (arith, position_or_len-le p xs, position-None_is p xs (sym e))
-
-pub ends-dropped : (t : Target) (is : List Instr) → drop (position_or_len (does is_terminator t) is) is ≡ ends_in t is
-ends-dropped t [] = refl
-ends-dropped t (i ∷ is) = go (does is_terminator t i) (ends-dropped t is)
-  where
-    go : (u : Bool) → drop (position_or_len (does is_terminator t) is) is ≡ ends_in t is → drop (cond (not u) (1 + position_or_len (does is_terminator t) is) 0) (i ∷ is) ≡ cond u (i ∷ is) (ends_in t is)
-    go true h = refl
-    go false h = ap (λ n. drop n (i ∷ is)) (one-add (position_or_len (does is_terminator t) is)) ∙ h
-
 -- forms of instructions
-
-turn : (b : Bool) → not b ≡ true → b ≡ false
-turn true e = absurd (cc)
-turn false e = refl
 
 copy-form : (os : List Operand) → copy_fits os ≡ true → (implicit_last os ≡ true) × AreFixed os
 copy-form (operands.Reg d ∷ operands.Reg o ∷ []) h =
-    let a : d.implicit ≡ false = turn d.implicit (second_of_both d.def (not d.implicit) (first_of_both (d.def && not d.implicit) (not o.def && not o.implicit) h)) in
-    let c : o.implicit ≡ false = turn o.implicit (second_of_both (not o.def) (not o.implicit) (second_of_both (d.def && not d.implicit) (not o.def && not o.implicit) h)) in (
+    let a : d.implicit ≡ false = not-true d.implicit (second_of_both d.def (not d.implicit) (first_of_both (d.def && not d.implicit) (not o.def && not o.implicit) h)) in
+    let c : o.implicit ≡ false = not-true o.implicit (second_of_both (not o.def) (not o.implicit) (second_of_both (d.def && not d.implicit) (not o.def && not o.implicit) h)) in (
       (λ k. cond (a k) (o.implicit && true) (cond (c k) true true)),
       (λ k. list_all (λ (x : RegOp). not (is_virtual x.loc)) (cond (a k) (d ∷ cond (c k) (o ∷ []) []) (cond (c k) (o ∷ []) []))),
     )
@@ -152,7 +138,7 @@ copy-form os h = absurd (cc)
 
 undefined-form : (os : List Operand) → implicit_def_fits os ≡ true → (implicit_last os ≡ true) × AreFixed os
 undefined-form (operands.Reg d ∷ []) h =
-    let a : d.implicit ≡ false = turn d.implicit (second_of_both d.def (not d.implicit) h) in
+    let a : d.implicit ≡ false = not-true d.implicit (second_of_both d.def (not d.implicit) h) in
     ((λ k. cond (a k) true true), (λ k. list_all (λ (x : RegOp). not (is_virtual x.loc)) (cond (a k) (d ∷ []) [])))
 undefined-form os h = absurd (cc)
 

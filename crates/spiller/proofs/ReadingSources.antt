@@ -26,8 +26,9 @@ use Rattle.spiller.specs.Readings.{AreDefinitions, alone, reached_by, reached_by
 use Rattle.spiller.specs.Rematerialised.{Reading, if_serves, is_constant, reaches, reaching, repeatable_class, repeated_for, serves, whole_class}
 use Rattle.spiller.specs.Setting.{Spilling}
 use Rattle.spiller.specs.Walks.{lists, told_by}
-use Rattle.spiller.proofs.NothingRepeated.{none-serves}
+use Rattle.spiller.proofs.ChangeFits.{nothing-serves}
 use Rattle.spiller.proofs.ReachesTold.{finds, ids-are, unnamed}
+use Rattle.spiller.proofs.Basics.{same-truth}
 
 -- tests and lists
 
@@ -44,11 +45,6 @@ any-same p q (x ∷ xs) h = ap (λ b. b || list_any p xs) (h x) ∙ ap (λ b. q 
 any-map : {X : Type 0} (p : ℕ → Bool) (g : X → ℕ) (xs : List X) → list_any p (map g xs) ≡ list_any (λ x. p (g x)) xs
 any-map p g [] = refl
 any-map p g (x ∷ xs) = ap (λ b. p (g x) || b) (any-map p g xs)
-
-same-truth : (a b : Bool) → (a ≡ true → b ≡ true) → (b ≡ true → a ≡ true) → a ≡ b
-same-truth true b h g = sym (h refl)
-same-truth false true h g = g refl
-same-truth false false h g = refl
 
 -- tests of lists with the same members are the same
 any-members : (p : ℕ → Bool) (xs ys : List ℕ) → ((i : ℕ) → has i xs ≡ has i ys) → list_any p xs ≡ list_any p ys
@@ -243,4 +239,4 @@ module _ (t : Target) (f : Function) (x : Table) (v : ℕ) (may : MaySpill t f x
           let plain : does is_constant t z.instr ≡ false =
           sym (are.constants y.0 m.0 (finds t f x v may ids are.touched).finds z.position z.spot z.block z.instr z.stands z.there (z.named ∙ sym y.2)) ∙ flat y.0 m.0 m.1 y.0.is_constant refl in
           let no : repeatable_class t z.instr ≡ None = ap (λ b. cond b (whole_class t z.instr z.instr.operands) None) plain in
-          sym (ap (λ b. cond b (Some n) None) (ap (serves t r.wish) no ∙ none-serves t r.wish)) ∙ z.is
+          sym (ap (λ b. cond b (Some n) None) (ap (serves t r.wish) no ∙ nothing-serves t r.wish)) ∙ z.is

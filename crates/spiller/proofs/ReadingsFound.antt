@@ -2,18 +2,16 @@
 use Rattle.std.proofs.Common.{◌≡◌, ◌∙◌, ℕ, zero, suc, ◌+◌, ◌<◌, ◌≤◌, Bool, true, false, cond, ◌&&◌, ◌||◌, List, [], ◌∷◌, ◌++◌, Option, Some, None, map, filter, length, get_or, take, drop, refl, sym, ap, arith, eqb-true}
 use Rattle.std.specs.Prelude.{nat_eq, nat_lt, is_some}
 use Rattle.std.specs.List.{list_any}
-use Rattle.std.proofs.lemmas.List.{map-append, take_more}
+use Rattle.std.proofs.lemmas.List.{map-append, take_more, append-nil}
 use Rattle.std.proofs.lemmas.List.Elements.{filter-append}
 use Rattle.std.proofs.lemmas.Bool.{lt-ltb}
 use Rattle.mir_meaning.specs.Paths.{has}
 use Rattle.mir_meaning.specs.Registers.{numbers}
+use Rattle.lowering_laws.proofs.Arrivals.{eqb-sym}
 use Rattle.spiller.specs.declared.reaching.Definition.{Definition}
 use Rattle.spiller.specs.declared.reaching.LaneReading.{LaneReading}
 use Rattle.spiller.specs.Walks.{lists}
 use Rattle.spiller.specs.Readings.{alone, reached_in}
-
-same-sides : (a b : ℕ) → nat_eq a b ≡ nat_eq b a
-same-sides a b = grind arith
 
 any-none : {X : Type 0} (p : X → Bool) (xs : List X) → ((x : X) → p x ≡ false) → list_any p xs ≡ false
 any-none p [] h = refl
@@ -28,7 +26,7 @@ lanes-more : (r : LaneReading) (rs : List LaneReading) (i : ℕ) (lanes : List �
 lanes-more r rs i [] = refl
 lanes-more r rs i (k ∷ lanes) =
     ap (λ b. ((nat_eq r.lane k && nat_eq r.by i) || lists rs k i) || b) (lanes-more r rs i lanes)
-    ∙ (ap (λ b. ((b && nat_eq r.by i) || lists rs k i) || ((has r.lane lanes && nat_eq r.by i) || list_any (λ k. lists rs k i) lanes)) (same-sides r.lane k)
+    ∙ (ap (λ b. ((b && nat_eq r.by i) || lists rs k i) || ((has r.lane lanes && nat_eq r.by i) || list_any (λ k. lists rs k i) lanes)) (eqb-sym r.lane k)
     ∙ go (nat_eq k r.lane) (nat_eq r.by i) (lists rs k i) (has r.lane lanes) (list_any (λ k. lists rs k i) lanes))
   where
     go : (a b l h r : Bool) → (((a && b) || l) || ((h && b) || r)) ≡ ((cond a true h && b) || (l || r))
@@ -52,7 +50,7 @@ by-more r rs lanes [] = none (has r.lane lanes)
 by-more r rs lanes (i ∷ by) =
     ap (λ b. b || reached_in by lanes (r ∷ rs)) (lanes-more r rs i lanes)
     ∙ (ap (λ b. ((has r.lane lanes && nat_eq r.by i) || list_any (λ k. lists rs k i) lanes) || b) (by-more r rs lanes by)
-    ∙ (ap (λ b. ((has r.lane lanes && b) || list_any (λ k. lists rs k i) lanes) || ((has r.lane lanes && has r.by by) || reached_in by lanes rs)) (same-sides r.by i)
+    ∙ (ap (λ b. ((has r.lane lanes && b) || list_any (λ k. lists rs k i) lanes) || ((has r.lane lanes && has r.by by) || reached_in by lanes rs)) (eqb-sym r.by i)
     ∙ go (has r.lane lanes) (nat_eq i r.by) (list_any (λ k. lists rs k i) lanes) (has r.by by) (reached_in by lanes rs)))
   where
     go : (a b l h r : Bool) → (((a && b) || l) || ((a && h) || r)) ≡ ((a && cond b true h) || (l || r))
@@ -93,10 +91,6 @@ passing-join : (p : Definition → Bool) (xs ys : List Definition) → passing p
 unfolding passing
 passing-join p xs ys = ap (map (λ (d : Definition). d.id)) (filter-append p xs ys) ∙ map-append (λ (d : Definition). d.id) (filter p xs) (filter p ys)
 
-none-behind : {X : Type 0} (xs : List X) → xs ++ [] ≡ xs
-none-behind [] = refl
-none-behind (x ∷ xs) = ap (λ ys. x ∷ ys) (none-behind xs)
-
 pub passing-none : (p : Definition → Bool) → passing p [] ≡ option_list None
 unfolding passing option_list
 passing-none p = refl
@@ -106,7 +100,7 @@ unfolding passing
 passing-skip p ds k d only h e n was =
     ap (passing p) (take_more ds k d h ∙ ap (λ x. take k ds ++ x ∷ []) (sym e))
     ∙ (passing-join p (take k ds) (d ∷ [])
-    ∙ (ap (λ b. passing p (take k ds) ++ map (λ (x : Definition). x.id) (cond b (d ∷ []) [])) n ∙ (none-behind (passing p (take k ds)) ∙ was)))
+    ∙ (ap (λ b. passing p (take k ds) ++ map (λ (x : Definition). x.id) (cond b (d ∷ []) [])) n ∙ (append-nil (passing p (take k ds)) ∙ was)))
 
 pub passing-first : (p : Definition → Bool) (ds : List Definition) (k : ℕ) (d : Definition) → k < length ds → d ≡ get_or ds k d → p d ≡ true → passing p (take k ds) ≡ option_list None → passing p (take (k + 1) ds) ≡ option_list (Some d.id)
 unfolding passing option_list

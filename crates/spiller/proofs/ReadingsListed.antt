@@ -12,6 +12,7 @@ use Rattle.mir_func.specs.declared.func.Instr.{Instr}
 use Rattle.mir_func.specs.declared.func.Block.{Block}
 use Rattle.mir_func.specs.Value.{Function}
 use Rattle.mir_func.specs.Binding.{does, effect_of, is_terminator, passes}
+use Rattle.instr_effects.proofs.Loops.{get-same}
 use Rattle.live_lanes.specs.declared.table.Table.{Table}
 use Rattle.live_lanes.specs.Touching.{AreTouched, FindsInstrs}
 use Rattle.live_laws.proofs.Effects.Blocks.{slice-member}
@@ -21,16 +22,18 @@ use Rattle.live_laws.proofs.Effects.Moving.{some-same}
 use Rattle.lowering_laws.proofs.BlockRules.{ordered}
 use Rattle.spiller.specs.declared.plan.SpillView.{SpillView}
 use Rattle.spiller.specs.MaySpill.{MaySpill}
-use Rattle.spiller.specs.Listed.{Lists, keyed_by, ends_by, ends_in, keyed_effect, keyed_operands, keyed_readings, place_at, place_by}
+use Rattle.spiller.specs.Listed.{Lists, keyed_by, keyed_effect, keyed_operands, keyed_readings, place_at, place_by}
 use Rattle.spiller.specs.Placing.{IsPlainForm}
 use Rattle.spiller.specs.Setting.{Spilling}
 use Rattle.spiller.specs.declared.reaching.Definition.{Definition}
 use Rattle.spiller.specs.declared.remat.RematUse.{RematUse}
 use Rattle.spiller.specs.Views.{spilling_of}
 use Rattle.live_laws.proofs.Touch.Sequence.{member-has}
-use Rattle.spiller.proofs.ListSteps.{got-same, item-member, lists-got, lists-same}
+use Rattle.spiller.proofs.ListSteps.{item-member, lists-got, lists-same}
 use Rattle.spiller.proofs.ReachesTold.{Site, one-instr, site-of}
-use Rattle.spiller.proofs.ReadingPlaces.{ends-dropped, form, forms, in-line}
+use Rattle.spiller.proofs.ReadingPlaces.{form, forms, in-line}
+use Rattle.spiller.proofs.EndsDropped.{ends-dropped}
+use Rattle.spiller.specs.Ends.{ends_of, block_ends}
 
 known-of : (test : Effect → Bool) (q : Option Effect) → passes test q ≡ true → (e : Effect) × (q ≡ Some e) × (test e ≡ true)
 known-of test None h = absurd (cc)
@@ -49,11 +52,11 @@ ends-keyed s (i ∷ []) h =
     go effects.Spill h os = absurd (cc)
     go e h os = refl
 
-pub ends-all : (t : Target) (is : List Instr) → ordered t is ≡ true → list_all (does is_terminator t) (ends_in t is) ≡ true
+pub ends-all : (t : Target) (is : List Instr) → ordered t is ≡ true → list_all (does is_terminator t) (ends_of t is) ≡ true
 ends-all t [] o = refl
 ends-all t (i ∷ is) o = go (does is_terminator t i) refl o (ends-all t is)
   where
-    go : (b : Bool) → does is_terminator t i ≡ b → cond b (list_all (does is_terminator t) is) (ordered t is) ≡ true → (ordered t is ≡ true → list_all (does is_terminator t) (ends_in t is) ≡ true) → list_all (does is_terminator t) (cond b (i ∷ is) (ends_in t is)) ≡ true
+    go : (b : Bool) → does is_terminator t i ≡ b → cond b (list_all (does is_terminator t) is) (ordered t is) ≡ true → (ordered t is ≡ true → list_all (does is_terminator t) (ends_of t is) ≡ true) → list_all (does is_terminator t) (cond b (i ∷ is) (ends_of t is)) ≡ true
     go true e q ih = λ k. e k && q k
     go false e q ih = ih q
 
@@ -95,23 +98,23 @@ module _ (view : SpillView) (may : MaySpill view.target.now view.live.now.func v
     mi : Member i b.instrs
     mi = slice-member b.instrs j i there
 
-    pub ends-are : (id : ℕ) → i.id ≡ id → ends_by view id ≡ ends_in t b.instrs
+    pub ends-are : (id : ℕ) → i.id ≡ id → block_ends view id ≡ ends_of t b.instrs
     ends-are id named =
-        ap (λ n. ends_by view n) (sym named)
+        ap (λ n. block_ends view n) (sym named)
         ∙ (ap (λ q. elim q as (λ q. List Instr) [ None ↦ [] | Some c ↦ drop (position_or_len (does is_terminator t) c.instrs) c.instrs ]) at-home
         ∙ ends-dropped t b.instrs)
 
     -- where it is a terminator, and where not
-    pub at-ends : does is_terminator t i ≡ true → place_at t b i ≡ ends_in t b.instrs
-    at-ends e = ap (λ c. cond c (ends_in t b.instrs) (i ∷ [])) e
+    pub at-ends : does is_terminator t i ≡ true → place_at t b i ≡ ends_of t b.instrs
+    at-ends e = ap (λ c. cond c (ends_of t b.instrs) (i ∷ [])) e
 
     pub at-one : does is_terminator t i ≡ false → place_at t b i ≡ i ∷ []
-    at-one e = ap (λ c. cond c (ends_in t b.instrs) (i ∷ [])) e
+    at-one e = ap (λ c. cond c (ends_of t b.instrs) (i ∷ [])) e
 
-    pub ends-formed : does is_terminator t i ≡ true → (js : List Instr) → js ≡ ends_in t b.instrs → AllByRecursion IsPlainForm js
+    pub ends-formed : does is_terminator t i ≡ true → (js : List Instr) → js ≡ ends_of t b.instrs → AllByRecursion IsPlainForm js
     ends-formed e js is = subst (AllByRecursion IsPlainForm) (at-ends e ∙ sym is) (forms t f x view.v may b mb i mi)
 
-    pub ends-listed : (s : Spilling) → s.target ≡ t → does is_terminator t i ≡ true → (js : List Instr) → js ≡ ends_in t b.instrs → keyed_operands s js ≡ keyed_readings s (place_at t b i)
+    pub ends-listed : (s : Spilling) → s.target ≡ t → does is_terminator t i ≡ true → (js : List Instr) → js ≡ ends_of t b.instrs → keyed_operands s js ≡ keyed_readings s (place_at t b i)
     ends-listed s same e js is =
         ends-keyed s js (subst (λ w. list_all (does is_terminator w) js ≡ true) (sym same) (subst (λ ks. list_all (does is_terminator t) ks ≡ true) (sym is) (ends-all t b.instrs (in-line t f x view.v may b mb))))
         ∙ ap (keyed_readings s) (is ∙ sym (at-ends e))
@@ -137,7 +140,7 @@ pub touched-step : (view : SpillView) (may : MaySpill view.target.now view.live.
     → Lists view ds (keyed_by view (take k ids)) [] mid → Lists view ds (keyed_by view (take (k + 1) ids)) [] new
 touched-step view may ids are ds k d mid new h added was =
     let id = get_or ids k d in
-    let z = site-of view.target.now view.live.now.func view.live.now.table view.v may ids are id (sym (are.named id) ∙ member-has id ids (item-member ids k id h (got-same ids k d id h))) in
+    let z = site-of view.target.now view.live.now.func view.live.now.table view.v may ids are id (sym (are.named id) ∙ member-has id ids (item-member ids k id h (get-same ids k d id h))) in
     lists-got view ds (λ s n. keyed_readings s (place_by view n)) ids k d [] mid new h was
     (lists-same view ds (λ s. keyed_readings s (place_at view.target.now z.1.block z.0)) (λ s. keyed_readings s (place_by view id)) mid new
     (λ slot facts. ap (keyed_readings (spilling_of view slot facts)) (sym (place-by-is view may z.1.position z.1.spot z.1.block z.0 z.1.stands z.1.there ids are id z.2)))

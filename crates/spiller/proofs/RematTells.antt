@@ -23,6 +23,7 @@ use Rattle.mir_meaning.specs.Points.{is_range}
 use Rattle.instr_effects.proofs.Members.{either-elim, flat-of, left-in, map-in, map-of, member-elim, member-none}
 use Rattle.live_lanes.specs.declared.table.Table.{Table}
 use Rattle.live_lanes.specs.Touching.{AreTouched, FindsInstrs}
+use Rattle.live_lanes.proofs.Cells.{both}
 use Rattle.lowering_laws.proofs.Tied.{one-index}
 use Rattle.spiller.specs.declared.plan.SpillView.{SpillView}
 use Rattle.spiller.specs.declared.reaching.Definition.{Definition}
@@ -31,7 +32,7 @@ use Rattle.spiller.specs.declared.remat.RematUse.{RematUse}
 use Rattle.spiller.specs.declared.remat.UseKey.{UseKey}
 use Rattle.spiller.specs.MaySpill.{MaySpill}
 use Rattle.spiller.specs.Additions.{own_use, own_uses, seated_operands}
-use Rattle.spiller.specs.Listed.{AreKeyed, IsJudged, IsKeyed, IsToldBy, Keyed, Lists, TestsNeedless, ends_in, keyed_by, keyed_copy, keyed_effect, keyed_move, keyed_operands, keyed_readings, keyed_tied, keyed_way, told_sources}
+use Rattle.spiller.specs.Listed.{AreKeyed, IsJudged, IsKeyed, IsToldBy, Keyed, Lists, TestsNeedless, keyed_by, keyed_copy, keyed_effect, keyed_move, keyed_operands, keyed_readings, keyed_tied, keyed_way, told_sources}
 use Rattle.spiller.specs.Planned.{TellsRemat, copy_key, is_move_place, way_key}
 use Rattle.spiller.specs.Reaching.{AreFacts, Facts}
 use Rattle.spiller.specs.Readings.{AreDefinitions, IsReading, TellConstants, goes_in, same_key, source_in}
@@ -43,7 +44,8 @@ use Rattle.spiller.proofs.KeyedPlaces.{IsPlaced, keyed-back, keyed-forth, once-o
 use Rattle.spiller.proofs.OwnUses.{ways-are}
 use Rattle.spiller.proofs.ReadingPlaces.{in-line, place-there}
 use Rattle.spiller.proofs.ReadingsListed.{finds}
-use Rattle.spiller.proofs.RematTold.{both-true, goes, goes-tests, gone-is, keyed-in, keyed-of, found-source, source-is}
+use Rattle.spiller.proofs.RematTold.{goes, goes-tests, gone-is, keyed-in, keyed-of, found-source, source-is}
+use Rattle.spiller.specs.Ends.{ends_of}
 
 one-class : (x y : Option ClassId) → same_class x y ≡ true → x ≡ y
 one-class None None h = refl
@@ -180,7 +182,7 @@ module _ (view : SpillView) (may : MaySpill view.target.now view.live.now.func v
       exists =
           let m = way-in s p (keyed_way s p x) moves (map-in (keyed_way s p) x (ways_read s p) mx) in
           let z = keyed-in s (keyed_by view ids s) us keyed (keyed_way s p x) (keyed-forth view may ids are slot facts b mb p mp (keyed_way s p x) m) in
-          (z.0, z.1, ap (same_key key) z.2.key ∙ both-true (nat_eq key.at key.at) (same_index x.index x.index && same_class x.class x.class) (eq-eqb key.at key.at refl) (both-true (same_index x.index x.index) (same_class x.class x.class) (index-refl x.index) (class-refl x.class)))
+          (z.0, z.1, ap (same_key key) z.2.key ∙ both (nat_eq key.at key.at) (same_index x.index x.index && same_class x.class x.class) (eq-eqb key.at key.at refl) (both (same_index x.index x.index) (same_class x.class x.class) (index-refl x.index) (class-refl x.class)))
 
   pub copies-told : (b : Block) (i : Instr) (d o : RegOp) → Member b f.blocks → Member i b.instrs → effect_of s.target i ≡ Some effects.Copy → i.operands ≡ operands.Reg d ∷ operands.Reg o ∷ [] → is_own s o ≡ true
       → option_map (λ s. s.id) (find (λ s. same_key (copy_key i.id) s.key) (flat_map told_sources us)) ≡ option_map (λ d. d.id) (repeated_for s (copy_reading s i d o))
@@ -195,7 +197,7 @@ module _ (view : SpillView) (may : MaySpill view.target.now view.live.now.func v
       mp : Member (i ∷ []) (places_of s.target b)
       mp =
           let plain : does is_terminator s.target i ≡ false = ap (passes is_terminator) effect in
-          subst (λ c. Member (cond c (ends_in s.target b.instrs) (i ∷ [])) (places_of s.target b)) plain (place-there s.target b.instrs i (in-line s.target f view.live.now.table s.range may b mb) mi)
+          subst (λ c. Member (cond c (ends_of s.target b.instrs) (i ∷ [])) (places_of s.target b)) plain (place-there s.target b.instrs i (in-line s.target f view.live.now.table s.range may b mb) mi)
 
       each : (u : RematUse) → Member u us → same_key key u.demand.key ≡ true → u.source ≡ option_map (λ d. d.id) (repeated_for s (copy_reading s i d o))
       each u mu hit = go (kinds s pl.place k.0 pl.reading)
@@ -219,7 +221,7 @@ module _ (view : SpillView) (may : MaySpill view.target.now view.live.now.func v
       exists =
           let m : Member (keyed_copy s i d o) (keyed_readings s (i ∷ [])) = subst (Member (keyed_copy s i d o)) (sym alone) first in
           let z = keyed-in s (keyed_by view ids s) us keyed (keyed_copy s i d o) (keyed-forth view may ids are slot facts b mb (i ∷ []) mp (keyed_copy s i d o) m) in
-          (z.0, z.1, ap (same_key key) z.2.key ∙ both-true (nat_eq key.at key.at) true (eq-eqb key.at key.at refl) refl)
+          (z.0, z.1, ap (same_key key) z.2.key ∙ both (nat_eq key.at key.at) true (eq-eqb key.at key.at refl) refl)
 
   pub tells : (r : Remat) → r.sources.items ≡ flat_map told_sources us → r.deleted.items ≡ filter (goes view may ids ds told slot facts tell us keyed judged) (map (λ d. d.id) ds) → TellsRemat s (source_in r) (goes_in r)
   tells r sources deleted = record {

@@ -17,6 +17,7 @@ use Rattle.mir_meaning.specs.Points.{touches}
 use Rattle.instr_effects.proofs.Members.{filter-in, filter-of, flat-in, flat-of, map-in, member-elim, member-none}
 use Rattle.live_lanes.specs.declared.table.Table.{Table}
 use Rattle.live_lanes.specs.Touching.{AreTouched}
+use Rattle.live_lanes.proofs.Cells.{both}
 use Rattle.live_laws.proofs.Effects.Blocks.{slice-member}
 use Rattle.live_laws.proofs.Effects.Lists.{all-of, any-in}
 use Rattle.live_laws.proofs.Touch.Cells.{any-of}
@@ -36,20 +37,9 @@ use Rattle.spiller.specs.Views.{spilling_of}
 use Rattle.spiller.proofs.KeyedPlaces.{all-back, all-forth, site}
 use Rattle.spiller.proofs.ReachesTold.{Site, ids-are, one-instr, site-of}
 use Rattle.spiller.proofs.ReadingSources.{test, test-instr, test-listed, test-untouched}
+use Rattle.spiller.proofs.Basics.{is-false, same-truth, some-member}
 
 -- tests and lists
-
-same-truth : (a b : Bool) → (a ≡ true → b ≡ true) → (b ≡ true → a ≡ true) → a ≡ b
-same-truth true b h g = sym (h refl)
-same-truth false true h g = g refl
-same-truth false false h g = refl
-
-pub both-true : (a b : Bool) → a ≡ true → b ≡ true → (a && b) ≡ true
-both-true a b h g = λ k. h k && g k
-
-is-false : (b : Bool) → (b ≡ true → ⊥) → b ≡ false
-is-false true n = absurd (n refl)
-is-false false n = refl
 
 is-true : (b : Bool) → (b ≡ false → ⊥) → b ≡ true
 is-true true n = refl
@@ -62,10 +52,6 @@ all-in p (x ∷ xs) h = λ k. h x first k && all-in p xs (λ y m. h y (later m))
 member-some : {X : Type 0} (x : X) (xs : List X) → Member x xs → nat_lt 0 (length xs) ≡ true
 member-some x [] m = absurd (member-none x m)
 member-some x (y ∷ xs) m = lt-ltb 0 (length (y ∷ xs)) (omega arith)
-
-some-member : {X : Type 0} (xs : List X) → nat_lt 0 (length xs) ≡ true → (x : X) × Member x xs
-some-member [] h = absurd (cc)
-some-member (x ∷ xs) h = (x, first)
 
 all-member : {X : Type 0} (P : X → Type 0) (x : X) (xs : List X) → AllByRecursion P xs → Member x xs → P x
 all-member P x [] h m = absurd (member-none x m)
@@ -199,7 +185,7 @@ module _ (view : SpillView) (may : MaySpill view.target.now view.live.now.func v
             let n = filter-of (reaches s i) r (all_readings s) m in
             let u = use-of r n.0 in
             is-true (is_rematerialised s r) (λ e. not-true (list_any (needs_value s d) us) h
-            (any-in (needs_value s d) u.0 us u.1 (both-true (reaches_use s d u.0) (not (is_some u.0.source)) (sym (reach-same u.0 r u.2) ∙ n.1) (ap not (repeated-same u.0 u.1 r u.2 ∙ e))))))
+            (any-in (needs_value s d) u.0 us u.1 (both (reaches_use s d u.0) (not (is_some u.0.source)) (sym (reach-same u.0 r u.2) ∙ n.1) (ap not (repeated-same u.0 u.1 r u.2 ∙ e))))))
 
         back : list_all (is_rematerialised s) rs ≡ true → not (list_any (needs_value s d) us) ≡ true
         back h = ap not (is-false (list_any (needs_value s d) us) (λ g.
@@ -229,7 +215,7 @@ module _ (view : SpillView) (may : MaySpill view.target.now view.live.now.func v
       let z = any-of (λ (j : Instr). nat_eq j.id i.id && is_needless s j) all h in
       let same : z.0 ≡ i = one-instr t f x v may ids are z.0 i (site-in z.0 z.1) (site-in i m) (eqb-true z.0.id i.id (first_of_both (nat_eq z.0.id i.id) (is_needless s z.0) z.2)) in
       ap (is_needless s) (sym same) ∙ second_of_both (nat_eq z.0.id i.id) (is_needless s z.0) z.2)
-      (λ h. any-in (λ (j : Instr). nat_eq j.id i.id && is_needless s j) i all m (both-true (nat_eq i.id i.id) (is_needless s i) (eq-eqb i.id i.id refl) h))
+      (λ h. any-in (λ (j : Instr). nat_eq j.id i.id && is_needless s j) i all m (both (nat_eq i.id i.id) (is_needless s i) (eq-eqb i.id i.id refl) h))
 
   pub goes-tests : TestsNeedless s ds us goes
   goes-tests d m =
@@ -239,7 +225,7 @@ module _ (view : SpillView) (may : MaySpill view.target.now view.live.now.func v
 
   has-filter : (p : ℕ → Bool) (n : ℕ) (ns : List ℕ) → has n (filter p ns) ≡ (has n ns && p n)
   has-filter p n ns = same-truth _ _
-      (λ h. let z = filter-of p n ns (has-member n (filter p ns) h) in both-true (has n ns) (p n) (member-has n ns z.0) z.1)
+      (λ h. let z = filter-of p n ns (has-member n (filter p ns) h) in both (has n ns) (p n) (member-has n ns z.0) z.1)
       (λ h. member-has n (filter p ns) (filter-in p n ns (has-member n ns (first_of_both (has n ns) (p n) h)) (second_of_both (has n ns) (p n) h)))
 
   -- what is needed no more touches the range

@@ -41,6 +41,7 @@ use Rattle.spiller.specs.Seating.{IsBehind, IsGiven}
 use Rattle.spiller.specs.Moving.{IsCopied, is_placed, reload_change, spill_change}
 use Rattle.spiller.specs.Placing.{IsPlainForm, KnownPlace, LiveAlike, Spillable}
 use Rattle.spiller.proofs.Known.{plain-form, repeated-there, tells-live}
+use Rattle.spiller.proofs.PlaceOutcomes.{use-register, definition-register}
 
 -- what an instruction of an effect becomes
 
@@ -75,16 +76,6 @@ copy-shape os h = absurd (cc)
 pub undefined-shape : (os : List Operand) → implicit_def_fits os ≡ true → (o : RegOp) × (os ≡ operands.Reg o ∷ [])
 undefined-shape (operands.Reg o ∷ []) h = (o, refl)
 undefined-shape os h = absurd (cc)
-
-use-register : (r : Role) (x : Operand) → is_use_role r ≡ true → fits_role r x ≡ true → (o : RegOp) × (x ≡ operands.Reg o)
-use-register (roles.Read k) (operands.Reg o) g h = (o, refl)
-use-register (roles.Tied k n) (operands.Reg o) g h = (o, refl)
-use-register r x g h = absurd (cc)
-
-definition-register : (r : Role) (x : Operand) → is_definition_role r ≡ true → fits_role r x ≡ true → (o : RegOp) × (x ≡ operands.Reg o)
-definition-register (roles.Def k) (operands.Reg o) g h = (o, refl)
-definition-register (roles.Early k) (operands.Reg o) g h = (o, refl)
-definition-register r x g h = absurd (cc)
 
 slot-number : (r : Role) (x : Operand) → is_slot_role r ≡ true → fits_role r x ≡ true → (m : ℕ) × (x ≡ operands.Stack m)
 slot-number roles.Slot (operands.Stack m) g h = (m, refl)

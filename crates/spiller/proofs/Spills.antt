@@ -15,6 +15,7 @@ use Rattle.edit_laws.specs.Edits.{Edit, all_edited}
 use Rattle.edit_laws.specs.Further.{KeepsLast, with_classes}
 use Rattle.live_edits.specs.LiveRuns.{IsExact, MayBeEditedLive}
 use Rattle.live_edits.specs.Runs.{HavePlaces, edits_of}
+use Rattle.live_edits.proofs.DraftPlaces.{take-past}
 use Rattle.spiller.specs.EditLaw.{PlansSpill, tiny_classes}
 use Rattle.spiller.specs.Growing.{AreGiven, HasGrown, HasGrownSome, IsLeft, MayGrow, MaySpillNow}
 use Rattle.spiller.specs.Reaching.{Facts}
@@ -23,7 +24,7 @@ use Rattle.spiller.specs.Slots.{Slots, original_of, own_slot, slot_of, with_rang
 use Rattle.spiller.specs.Spilled.{IsSpilled, all_changes, names_slot, setting_of, slots_after, spilled, tinies, tinies_of}
 use Rattle.spiller.specs.Views.{Planned}
 use Rattle.spiller.specs.WholePlan.{whole_plan}
-use Rattle.spiller.proofs.NewRanges.{computed-of, grown-rules, none-some, take-whole}
+use Rattle.spiller.proofs.NewRanges.{computed-of, grown-rules, none-some}
 use Rattle.spiller.proofs.SpillLaw.{spill-edits-law}
 
 length-both : {X Y : Type 0} (f : X → Y) (g : X → ℕ) (n : ℕ) (xs : List X) → length (zip (numbers n (length xs)) (map g xs)) ≡ length (map f xs)
@@ -108,7 +109,7 @@ module _ (x : LiveFunc) (slots : Slots) (v : ℕ) (facts : Facts) (now : MaySpil
     over P h = subst (λ t. P t mid.func) (sym has.target) (subst (P x.target) (sym func) h)
 
     rules : KeepsRules x.target grown
-    rules = subst (λ cs. KeepsRules x.target (with_classes x.func cs)) (take-whole (length p.classes) p.classes (omega arith)) (grown-rules x kept p.classes (may-grow few kept refl) (length p.classes))
+    rules = subst (λ cs. KeepsRules x.target (with_classes x.func cs)) (take-past (length p.classes) p.classes (omega arith)) (grown-rules x kept p.classes (may-grow few kept refl) (length p.classes))
 
     pub may-edit : MayBeEditedLive mid es
     may-edit = record {
@@ -143,7 +144,7 @@ module _ (x : LiveFunc) (slots : Slots) (v : ℕ) (facts : Facts) (now : MaySpil
     spill-refused h =
         let exact = h may-edit in
         let n : ℕ = length p.classes in
-        let whole : mid.func ≡ with_classes x.func (take n p.classes) = func ∙ ap (with_classes x.func) (sym (take-whole n p.classes (omega arith))) in
+        let whole : mid.func ≡ with_classes x.func (take n p.classes) = func ∙ ap (with_classes x.func) (sym (take-past n p.classes (omega arith))) in
         let some : HasGrownSome x kept p.classes new then = record {
           count = n;
           few = omega arith;

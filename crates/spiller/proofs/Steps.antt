@@ -13,6 +13,7 @@ use Rattle.mir_func.specs.declared.func.RegOp.{RegOp}
 use Rattle.mir_func.specs.Binding.{Bound, after_first, explicit_bound, first_role, numbered}
 use Rattle.mir_func.proofs.Bound.{numbered_append}
 use Rattle.mir_meaning.specs.Places.{Variable, each_once, same_use}
+use Rattle.live_lanes.proofs.Flowing.{or-false}
 use Rattle.spiller.specs.declared.roles.IndexedClass.{IndexedClass}
 use Rattle.spiller.specs.declared.seats.DefinedTiny.{DefinedTiny}
 use Rattle.spiller.specs.declared.seats.ReadTiny.{ReadTiny}
@@ -22,7 +23,7 @@ use Rattle.spiller.specs.Views.{Planned, same_way, way_of}
 use Rattle.spiller.specs.Additions.{both, definitions_given, given_from, put_into, ranges_made, tied_reloads, ways_given, with_addition}
 use Rattle.spiller.specs.Placing.{last_name}
 use Rattle.spiller.specs.Seating.{defined_tiny, read_tiny}
-use Rattle.spiller.proofs.Added.{addition-is, or-false, plan-is, put-more, then-added, twice}
+use Rattle.spiller.proofs.Added.{addition-is, plan-is, put-more, then-added, twice}
 use Rattle.spiller.proofs.WaysFound.{one-use}
 use Rattle.spiller.proofs.Walks.{bound-more, bound-all, told-more, told-all, counted-more, counted-all, once-further}
 
@@ -123,7 +124,7 @@ definitions-more s gap at ps qs =
     parts-more s gap (map (λ p. (p.1.class, at)) ps) (map (λ p. (p.1.class, at)) qs) (flat_map (tied_reloads s) ps) (flat_map (tied_reloads s) qs)
     ∙ (λ k. both (ranges_made (sym (map-append (λ (p : ℕ × OwnDefinition). (p.1.class, at)) ps qs) k)) (put_into s gap (sym (flat_map-append (tied_reloads s) ps qs) k)))
 
-length-numbered : {X : Type 0} (n : ℕ) (xs : List X) → length (numbered n xs) ≡ length xs
+pub length-numbered : {X : Type 0} (n : ℕ) (xs : List X) → length (numbered n xs) ≡ length xs
 length-numbered n [] = refl
 length-numbered n (x ∷ xs) = ap suc (length-numbered (suc n) xs)
 

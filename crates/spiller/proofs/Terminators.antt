@@ -20,9 +20,10 @@ use Rattle.spiller.specs.Rematerialised.{all_readings, is_constant, is_remateria
 use Rattle.spiller.specs.Spilled.{becomes, change, place_change}
 use Rattle.spiller.specs.Views.{gap_behind, own_setting, spilling_of}
 use Rattle.spiller.specs.Planned.{is_move_place}
-use Rattle.spiller.specs.Moving.{is_placed}
 use Rattle.spiller.specs.Placing.{AreTerminators, IsPlainForm, KnownPlace, LiveAlike, Spillable, last_name}
 use Rattle.spiller.proofs.Singles.{block-in, finds, form, given, live, ordered, other-is}
+use Rattle.spiller.specs.Moving.{is_placed}
+use Rattle.spiller.proofs.ListSeats.{get-seat}
 
 known-of : (test : Effect → Bool) (q : Option Effect) → passes test q ≡ true → (e : Effect) × (q ≡ Some e) × (test e ≡ true)
 known-of test None h = absurd (cc)
@@ -84,10 +85,6 @@ last-place t (x ∷ front) is i h g = go (does is_terminator t x) h (λ k. last-
 
 -- where they stand
 
-behind-front : {X : Type 0} (xs : List X) (x : X) (ys : List X) → slice_get (xs ++ x ∷ ys) (length xs) ≡ Some x
-behind-front [] x ys = refl
-behind-front (z ∷ xs) x ys = behind-front xs x ys
-
 pub record IsLast (is all : List Instr) : Type 0 where
   pub place : ℕ
   pub instr : Instr
@@ -100,7 +97,7 @@ nothing-behind [] x = refl
 nothing-behind (z ∷ xs) x = let e : length (z ∷ xs) + 1 ≡ suc (length xs + 1) = omega arith in ap (slice_get ((z ∷ xs) ++ x ∷ [])) e ∙ nothing-behind xs x
 
 last-of : (front is : List Instr) (i : Instr) → IsLast (i ∷ is) (front ++ i ∷ is)
-last-of front [] i = record { place = length front; instr = i; there = behind-front front i []; end = nothing-behind front i; named = refl }
+last-of front [] i = record { place = length front; instr = i; there = get-seat front i []; end = nothing-behind front i; named = refl }
 last-of front (j ∷ is) i =
     let z = last-of (front ++ i ∷ []) is j in
     let e : (front ++ i ∷ []) ++ j ∷ is ≡ front ++ i ∷ j ∷ is = append_assoc front (i ∷ []) (j ∷ is) in
@@ -120,7 +117,7 @@ module _ (view : SpillView) (facts : Facts) (answer : UseKey → Option ℕ) (go
     all-forms : (front is : List Instr) → b.instrs ≡ front ++ is → list_all (does is_terminator t) is ≡ true → AllByRecursion IsPlainForm is × AllByRecursion (LiveAlike facts (own_setting view).facts) is
     all-forms front [] e h = (tt, tt)
     all-forms front (i ∷ is) e h =
-        let at : slice_get b.instrs (length front) ≡ Some i = ap (λ xs. slice_get xs (length front)) e ∙ behind-front front i is in
+        let at : slice_get b.instrs (length front) ≡ Some i = ap (λ xs. slice_get xs (length front)) e ∙ get-seat front i is in
         let z = known-of is_terminator (effect_of t i) (first_of_both (does is_terminator t i) (list_all (does is_terminator t) is) h) in
         let more = all-forms (front ++ i ∷ []) is (e ∙ sym (append_assoc front (i ∷ []) is)) (second_of_both (does is_terminator t i) (list_all (does is_terminator t) is) h) in
         ((form view facts answer goes w p (length front) b i is_block at z.0 z.1 (rolled z.0 z.2), more.0), (live view facts answer goes w p (length front) b i is_block at, more.1))

@@ -5,30 +5,15 @@ use Rattle.std.specs.List.{list_any}
 use Rattle.std.proofs.lemmas.Bool.{eq-eqb}
 use Rattle.target_base.proofs.Tests.{first_of_both, second_of_both}
 use Rattle.meaning.specs.Live.{Among}
+use Rattle.live_lanes.proofs.Cells.{both}
 use Rattle.live_laws.proofs.Effects.Lists.{any-in}
-use Rattle.live_laws.proofs.Touch.Cells.{any-of}
+use Rattle.live_laws.proofs.Touch.Cells.{any-of, or-left, or-right, or-cases}
 
 -- a test tells whether the statement holds
 pub record Told (P : Type 0) : Type 0 where
   pub test : Bool
   pub forth : test ≡ true → P
   pub back : P → test ≡ true
-
-both-true : (a b : Bool) → a ≡ true → b ≡ true → (a && b) ≡ true
-both-true true b e h = h
-both-true false b e h = absurd (let z : false ≡ true = e in cc)
-
-one-true : (a b : Bool) → (a || b) ≡ true → (a ≡ true) ⊎ (b ≡ true)
-one-true true b h = inl refl
-one-true false b h = inr h
-
-left-true : (a b : Bool) → a ≡ true → (a || b) ≡ true
-left-true true b e = refl
-left-true false b e = absurd (let z : false ≡ true = e in cc)
-
-right-true : (a b : Bool) → b ≡ true → (a || b) ≡ true
-right-true true b e = refl
-right-true false b e = e
 
 pub told-by : {P Q : Type 0} → (P → Q) → (Q → P) → Told P → Told Q
 told-by f g z = record { test = z.test; forth = λ e. f (z.forth e); back = λ q. z.back (g q) }
@@ -57,19 +42,19 @@ pub told-both : {P Q : Type 0} → Told P → Told Q → Told (P × Q)
 told-both x y = record {
   test = x.test && y.test;
   forth = λ e. (x.forth (first_of_both x.test y.test e), y.forth (second_of_both x.test y.test e));
-  back = λ h. both-true x.test y.test (x.back h.0) (y.back h.1);
+  back = λ h. both x.test y.test (x.back h.0) (y.back h.1);
 }
 
 pub told-either : {P Q : Type 0} → Told P → Told Q → Told (P ⊎ Q)
-told-either {P} {Q} x y = record { test = x.test || y.test; forth = λ e. go (one-true x.test y.test e); back = by }
+told-either {P} {Q} x y = record { test = x.test || y.test; forth = λ e. go (or-cases x.test y.test e); back = by }
   where
     go : (x.test ≡ true) ⊎ (y.test ≡ true) → P ⊎ Q
     go (inl e) = inl (x.forth e)
     go (inr e) = inr (y.forth e)
 
     by : P ⊎ Q → (x.test || y.test) ≡ true
-    by (inl p) = left-true x.test y.test (x.back p)
-    by (inr q) = right-true x.test y.test (y.back q)
+    by (inl p) = or-left x.test y.test (x.back p)
+    by (inr q) = or-right x.test y.test (y.back q)
 
 pub told-some : {X : Type 0} (P : X → Type 0) → ((x : X) → Told (P x)) → (xs : List X) → Told ((x : X) × Among x xs × P x)
 told-some P k xs = record {
@@ -95,7 +80,7 @@ module _ (S : ℕ → ℕ → Type 0) (told : (p q : ℕ) → Told (S p q)) wher
 
   link-chain : (k p q : ℕ) → link k p q ≡ true → Chain S p q
   link-chain zero p q e = one ((told p q).forth e)
-  link-chain (suc k) p q e = go (one-true (link k p q) (link k p k && link k k q) e) (link-chain k)
+  link-chain (suc k) p q e = go (or-cases (link k p q) (link k p k && link k k q) e) (link-chain k)
     where
       go : (link k p q ≡ true) ⊎ ((link k p k && link k k q) ≡ true) → ((m n : ℕ) → link k m n ≡ true → Chain S m n) → Chain S p q
       go (inl h) ih = ih p q h
@@ -103,7 +88,7 @@ module _ (S : ℕ → ℕ → Type 0) (told : (p q : ℕ) → Told (S p q)) wher
 
   step-link : (k p q : ℕ) → S p q → link k p q ≡ true
   step-link zero p q s = (told p q).back s
-  step-link (suc k) p q s = left-true (link k p q) (link k p k && link k k q) (step-link k p q s)
+  step-link (suc k) p q s = or-left (link k p q) (link k p k && link k k q) (step-link k p q s)
 
   -- chains below k are joined at a number below k
   abbrev By : ℕ → Type 0
@@ -114,31 +99,31 @@ module _ (S : ℕ → ℕ → Type 0) (told : (p q : ℕ) → Told (S p q)) wher
   link-by (suc k) p m q h a b = go (nat_eq m k) refl (link-by k)
     where
       to : (m ≡ k) → link k p k ≡ true
-      to e = by (one-true (link k p k) (link k p k && link k k k) (subst (λ n. link (suc k) p n ≡ true) e a))
+      to e = by (or-cases (link k p k) (link k p k && link k k k) (subst (λ n. link (suc k) p n ≡ true) e a))
         where
           by : (link k p k ≡ true) ⊎ ((link k p k && link k k k) ≡ true) → link k p k ≡ true
           by (inl z) = z
           by (inr z) = first_of_both (link k p k) (link k k k) z
 
       from : (m ≡ k) → link k k q ≡ true
-      from e = by (one-true (link k k q) (link k k k && link k k q) (subst (λ n. link (suc k) n q ≡ true) e b))
+      from e = by (or-cases (link k k q) (link k k k && link k k q) (subst (λ n. link (suc k) n q ≡ true) e b))
         where
           by : (link k k q ≡ true) ⊎ ((link k k k && link k k q) ≡ true) → link k k q ≡ true
           by (inl z) = z
           by (inr z) = second_of_both (link k k k) (link k k q) z
 
       through : link k p k ≡ true → link k k q ≡ true → link (suc k) p q ≡ true
-      through x y = right-true (link k p q) (link k p k && link k k q) (both-true (link k p k) (link k k q) x y)
+      through x y = or-right (link k p q) (link k p k && link k k q) (both (link k p k) (link k k q) x y)
 
       below : By k → m < k → (link k p m ≡ true) ⊎ ((link k p k && link k k m) ≡ true) → (link k m q ≡ true) ⊎ ((link k m k && link k k q) ≡ true) → link (suc k) p q ≡ true
-      below ih n (inl x) (inl y) = left-true (link k p q) (link k p k && link k k q) (ih p m q n x y)
+      below ih n (inl x) (inl y) = or-left (link k p q) (link k p k && link k k q) (ih p m q n x y)
       below ih n (inl x) (inr y) = through (ih p m k n x (first_of_both (link k m k) (link k k q) y)) (second_of_both (link k m k) (link k k q) y)
       below ih n (inr x) (inl y) = through (first_of_both (link k p k) (link k k m) x) (ih k m q n (second_of_both (link k p k) (link k k m) x) y)
       below ih n (inr x) (inr y) = through (first_of_both (link k p k) (link k k m) x) (second_of_both (link k m k) (link k k q) y)
 
       go : (u : Bool) → nat_eq m k ≡ u → By k → link (suc k) p q ≡ true
       go true e ih = through (to (eqb-true m k e)) (from (eqb-true m k e))
-      go false e ih = below ih (smaller m k h (λ f. let z : true ≡ false = sym (eq-eqb m k f) ∙ e in cc)) (one-true (link k p m) (link k p k && link k k m) a) (one-true (link k m q) (link k m k && link k k q) b)
+      go false e ih = below ih (smaller m k h (λ f. let z : true ≡ false = sym (eq-eqb m k f) ∙ e in cc)) (or-cases (link k p m) (link k p k && link k k m) a) (or-cases (link k m q) (link k m k && link k k q) b)
         where
           smaller : (m k : ℕ) → m < suc k → (m ≡ k → ⊥) → m < k
           smaller m k h n = omega (arith, h, n)

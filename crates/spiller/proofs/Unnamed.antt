@@ -27,6 +27,7 @@ use Rattle.spiller.specs.Rematerialised.{is_needless, own_variables, ways_read}
 use Rattle.spiller.specs.Setting.{Spilling, in_own_slot, is_live_behind, is_own, moving_class, own_class, part_class, store, undef_use}
 use Rattle.spiller.specs.Spilled.{Change, OwnDefinition, Seats, as_tiny, becomes, change, copied_in, copied_out, copied_within, definitions_in, effect_change, given, in_place_of, is_own_part, numbered_operands, own_definition, place_change, place_name, seated_operand, stored, through_tiny, tied_reload, tiny_of, with_tinies}
 use Rattle.spiller.specs.Planned.{names_own}
+use Rattle.spiller.proofs.Basics.{map-same}
 
 filter-none : {X : Type 0} (p : X → Bool) (xs : List X) → ((x : X) → Member x xs → p x ≡ false) → filter p xs ≡ []
 filter-none p [] h = refl
@@ -39,10 +40,6 @@ told-none g (x ∷ xs) h = λ j. cons_option (h x first j) (told-none g xs (λ y
 flat-none : {X Y : Type 0} (g : X → List Y) (xs : List X) → ((x : X) → Member x xs → g x ≡ []) → flat_map g xs ≡ []
 flat-none g [] h = refl
 flat-none g (x ∷ xs) h = λ j. h x first j ++ flat-none g xs (λ y m. h y (later m)) j
-
-pub map-more : {A B : Type 0} (f g : A → B) (xs : List A) → ((x : A) → Member x xs → f x ≡ g x) → map f xs ≡ map g xs
-map-more f g [] h = refl
-map-more f g (x ∷ xs) h = λ j. h x first j ∷ map-more f g xs (λ y m. h y (later m)) j
 
 map-itself : {A : Type 0} (f : A → A) (xs : List A) → ((x : A) → Member x xs → f x ≡ x) → map f xs ≡ xs
 map-itself f [] h = refl
@@ -119,7 +116,7 @@ module _ (s : Spilling) (i : Instr) (strange : IsStrange s i) where
       by n r o m = refl
 
   pub stays-itself : (x : Seats) → with_tinies s x i ≡ i
-  stays-itself x = ap (λ os. record i { operands = os }) (map-more (seated_operand s x i) (λ (p : ℕ × Bound). p.1.1) (numbered_operands s.target i) (λ p m. by p.0 p.1.0 p.1.1 m) ∙ operands-are 0 (explicit_roles (roles_of s.target i)) i.operands)
+  stays-itself x = ap (λ os. record i { operands = os }) (map-same (seated_operand s x i) (λ (p : ℕ × Bound). p.1.1) (numbered_operands s.target i) (λ p m. by p.0 p.1.0 p.1.1 m) ∙ operands-are 0 (explicit_roles (roles_of s.target i)) i.operands)
     where
       by : (n : ℕ) (r : Option Role) (o : Operand) → Member (n, (r, o)) (numbered_operands s.target i) → seated_operand s x i (n, (r, o)) ≡ o
       by n r (operands.Reg o) m = ap operands.Reg (ap (λ b. cond b (elim (tiny_of s x i n r o) as (λ x. RegOp) [ None ↦ o | Some c ↦ as_tiny o c ]) o) (there n r o m))

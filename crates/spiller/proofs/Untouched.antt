@@ -21,10 +21,7 @@ use Rattle.live_laws.proofs.Effects.Lists.{any-in}
 use Rattle.live_laws.proofs.Touch.Cells.{or-left, or-right}
 use Rattle.live_laws.proofs.Touch.Touched.{below-back}
 use Rattle.spiller.specs.Walks.{touch_of}
-
-is-false : (b : Bool) → (b ≡ true → ⊥) → b ≡ false
-is-false true n = absurd (n refl)
-is-false false n = refl
+use Rattle.spiller.proofs.Basics.{is-false}
 
 found-any : {X : Type 0} (p : X → Bool) (xs : List X) → is_some (find p xs) ≡ true → list_any p xs ≡ true
 found-any p [] h = absurd (cc)

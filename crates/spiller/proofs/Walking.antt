@@ -1,9 +1,11 @@
 -- The walk from the rest of a block lists just the blocks that what stands there enters.
-use Rattle.std.proofs.Common.{◌≡◌, ◌∙◌, ◌⊎◌, ℕ, zero, suc, ◌+◌, ◌<◌, ◌≤◌, Bool, true, false, cond, not, ◌&&◌, ◌||◌, List, [], ◌∷◌, ◌++◌, Some, length, get_or, take, refl, sym, ap, subst, inl, inr, arith, eqb-true}
+use Rattle.std.proofs.Common.{◌≡◌, ◌∙◌, ℕ, zero, suc, ◌+◌, ◌<◌, ◌≤◌, Bool, true, false, cond, not, ◌&&◌, ◌||◌, List, [], ◌∷◌, ◌++◌, Some, length, get_or, take, refl, sym, ap, subst, inl, inr, arith, eqb-true}
 use Rattle.std.proofs.Math.ListN.{set}
 use Rattle.std.proofs.lemmas.List.{take_more}
 use Rattle.std.specs.Prelude.{◌↔◌, nat_eq, slice_get}
+use Rattle.target_base.proofs.Tests.{first_of_both, second_of_both}
 use Rattle.mir_meaning.specs.Paths.{has}
+use Rattle.live_laws.proofs.Touch.Cells.{or-left, or-cases}
 use Rattle.spiller.specs.declared.reaching.BlockTouches.{BlockTouches}
 use Rattle.spiller.specs.declared.reaching.LaneTouch.{LaneTouch}
 use Rattle.spiller.specs.Walks.{is_open, keeps, touches_at, Spreads, Enters, leaves, goes_on}
@@ -54,26 +56,6 @@ same-default (x ∷ xs) zero d e h = refl
 same-default (x ∷ xs) (suc j) d e h = same-default xs j d e (omega arith)
 
 -- tests
-
-or-true : (a b : Bool) → (a || b) ≡ true → (a ≡ true) ⊎ (b ≡ true)
-or-true true b h = inl refl
-or-true false b h = inr h
-
-left-true : (a b : Bool) → a ≡ true → (a || b) ≡ true
-left-true true b h = refl
-left-true false b h = absurd (cc)
-
-right-true : (a b : Bool) → b ≡ true → (a || b) ≡ true
-right-true true b h = refl
-right-true false b h = h
-
-and-left : (a b : Bool) → (a && b) ≡ true → a ≡ true
-and-left true b h = refl
-and-left false b h = absurd (cc)
-
-and-right : (a b : Bool) → (a && b) ≡ true → b ≡ true
-and-right true b h = h
-and-right false b h = absurd (cc)
 
 marks-more : (d w n : Bool) → ((d && not w) && not n) ≡ (d && not (w || ((d && not w) && n)))
 marks-more true true true = refl
@@ -253,11 +235,11 @@ module _ (ways : ℕ → List ℕ) (blocks : List BlockTouches) (dead : List Boo
       → Spreads marks work marks' work' (from-block (get_or work k 0)) → Walked ways blocks dead at rest marks' work' (k + 1)
   walked-more marks marks' work work' k inside w s = record {
     marked = λ q. s.marked q ∙ (ap (λ b. b && not (has q (from-block (get_or work k 0)))) (w.marked q) ∙ (marks-more (is_open dead q) (has q work) (has q (from-block (get_or work k 0))) ∙ ap (λ b. is_open dead q && not b) (sym (listed q))));
-    sound = λ q h. elim (or-true (has q work) _ (sym (listed q) ∙ h)) [
+    sound = λ q h. elim (or-cases (has q work) _ (sym (listed q) ∙ h)) [
       | inl a ↦ w.sound q a
-      | inr b ↦ let n = within (keeps (touches_at blocks (get_or work k 0))) (ways (get_or work k 0)) q (and-right _ _ b) in goes_on (w.sound (get_or work k 0) (has-at work k (get_or work k 0) at-k)) n.0 n.1 (and-left _ _ (and-left _ _ b))
+      | inr b ↦ let n = within (keeps (touches_at blocks (get_or work k 0))) (ways (get_or work k 0)) q (second_of_both _ _ b) in goes_on (w.sound (get_or work k 0) (has-at work k (get_or work k 0) at-k)) n.0 n.1 (first_of_both _ _ (first_of_both _ _ b))
     ];
-    first = λ e q h o. listed q ∙ left-true (has q work) _ (w.first e q h o);
+    first = λ e q h o. listed q ∙ or-left (has q work) _ (w.first e q h o);
     done = λ j r h e m q n o. old-or-new j r h e m q n o;
   }
     where
@@ -281,7 +263,7 @@ module _ (ways : ℕ → List ℕ) (blocks : List BlockTouches) (dead : List Boo
               let kept : keeps (touches_at blocks (get_or work k 0)) ≡ true = subst (λ x. keeps (touches_at blocks x) ≡ true) r-same m in
               let there : has q (ways (get_or work k 0)) ≡ true = subst (λ x. has q (ways x) ≡ true) r-same n in
               listed q ∙ found-more (is_open dead q) (has q work) (has q (from-block (get_or work k 0))) o (subst (λ b. has q (cond b (ways (get_or work k 0)) []) ≡ true) (sym kept) there)
-          go false g = listed q ∙ left-true (has q work) _ (w.done j r (apart g) was m q n o)
+          go false g = listed q ∙ or-left (has q work) _ (w.done j r (apart g) was m q n o)
             where
               apart : nat_eq j k ≡ false → j < k
               apart g = grind arith

@@ -9,8 +9,8 @@ use Rattle.mir_func.specs.Binding.{Bound, after_first, explicit_bound, first_rol
 use Rattle.mir_func.proofs.Bound.{bound_step, bound_none}
 use Rattle.phi_elim.proofs.Walks.{drop_all}
 use Rattle.mir_meaning.specs.Places.{Variable, each_once, same_use}
-use Rattle.spiller.proofs.Added.{or-true}
 use Rattle.spiller.proofs.OwnUses.{seen-alike}
+use Rattle.spiller.proofs.Basics.{or-swapped}
 
 -- one operand more
 pub bound-more : (qs next : List Role) (r : Option Role) (k : ℕ) (os : List Operand) (o : Operand) → k < length os → o ≡ get_or os k o → r ≡ first_role qs → next ≡ after_first qs → explicit_bound qs (drop k os) ≡ (r, o) ∷ explicit_bound next (drop (k + 1) os)
@@ -37,10 +37,6 @@ pub counted-all : {X : Type 0} (g : ℕ × Bound → Option X) (qs : List Role) 
 counted-all g qs k os h = ap (λ bs. filter_map g (numbered k bs)) (bound-all qs k os h)
 
 -- variables once each
-
-or-swapped : (a b c : Bool) → (a || (b || c)) ≡ (b || (a || c))
-or-swapped true b c = sym (or-true b)
-or-swapped false b c = refl
 
 any-moved : (v x : Variable) (xs ys : List Variable) → list_any (same_use v) ((x ∷ xs) ++ ys) ≡ list_any (same_use v) (xs ++ x ∷ ys)
 any-moved v x [] ys = refl

@@ -8,6 +8,7 @@ use Rattle.meaning.specs.Live.{Among, here, there}
 use Rattle.mir_func.specs.declared.func.Block.{Block}
 use Rattle.mir_func.specs.declared.func.Instr.{Instr}
 use Rattle.mir_meaning.specs.Registers.{numbers}
+use Rattle.live_lanes.proofs.Flowing.{or-assoc}
 use Rattle.live_edits.specs.declared.edit.Edit.{Edit as CodeEdit}
 use Rattle.live_edits.specs.declared.edit.Edit.TheVariants as code_edits
 use Rattle.spiller.specs.Setting.{Spilling}
@@ -45,10 +46,6 @@ or-false : (u : Bool) → u ≡ u || false
 or-false true = refl
 or-false false = refl
 
-or-either : (u v w : Bool) → (u || v) || w ≡ u || (v || w)
-or-either true v w = refl
-or-either false v w = refl
-
 pub grown-none : (p : Planned) → p ≡ grown p [] [] false 0
 grown-none p =
     let e : p.next_range ≡ p.next_range + 0 = omega arith in
@@ -74,7 +71,7 @@ grown-twice p es fs ts us u w k m =
       edits = append_assoc p.edits es fs j;
       tinies = n j;
       classes = c j;
-      uses_slot = or-either p.uses_slot u w j;
+      uses_slot = or-assoc p.uses_slot u w j;
       next_range = e j;
       next_id = d j;
     }

@@ -16,6 +16,7 @@ pub mod Moving
 pub mod Placing
 pub mod WholePlan
 pub mod EditLaw
+pub mod Ends
 pub mod Marks
 pub mod Growing
 pub mod Listed

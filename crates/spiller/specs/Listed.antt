@@ -1,6 +1,6 @@
 -- The readings of a range as they are listed: in the definition's order, each under the key by which it is asked for.
-use Rattle.std.specs.Prelude.{◌≡◌, ℕ, Bool, cond, not, ◌&&◌, List, [], ◌∷◌, ◌++◌, map, filter, filter_map, find, drop, nat_eq, flat_map, slice_get, slice_index, Option, Some, None, is_some, option_and_then, option_map}
-use Rattle.std.specs.List.{AllByRecursion, list_any, position_or_len}
+use Rattle.std.specs.Prelude.{◌≡◌, ℕ, Bool, cond, not, ◌&&◌, List, [], ◌∷◌, ◌++◌, map, filter, filter_map, find, nat_eq, flat_map, slice_get, slice_index, Option, Some, None, is_some, option_and_then, option_map}
+use Rattle.std.specs.List.{AllByRecursion, list_any}
 use Rattle.target_base.specs.declared.types.Effect.{Effect}
 use Rattle.target_base.specs.declared.types.Effect.TheVariants as effects
 use Rattle.target_base.specs.declared.types.IndexId.{IndexId}
@@ -20,6 +20,7 @@ use Rattle.spiller.specs.declared.reaching.Definition.{Definition}
 use Rattle.spiller.specs.declared.remat.RematDemand.{RematDemand}
 use Rattle.spiller.specs.declared.remat.RematUse.{RematUse}
 use Rattle.spiller.specs.declared.remat.UseKey.{UseKey}
+use Rattle.spiller.specs.Ends.{ends_of}
 use Rattle.spiller.specs.MaySpill.{MaySpill}
 use Rattle.spiller.specs.Reaching.{Facts, AreFacts, Reaches}
 use Rattle.spiller.specs.Walks.{told_by}
@@ -133,21 +134,9 @@ TestsOne s d us test = (p j : ℕ) × (b : Block) × (i : Instr) × (slice_get s
 abbrev pub TestsNeedless : Spilling → List Definition → List RematUse → (ℕ → Bool) → Type 0
 TestsNeedless s ds us test = (d : Definition) → Member d ds → TestsOne s d us test
 
--- the terminators of a block
-abbrev pub ends_in : Target → List Instr → List Instr
-ends_in t [] = []
-ends_in t (i ∷ is) = cond (does is_terminator t i) (i ∷ is) (ends_in t is)
-
 -- the place of an instruction of a block
 abbrev pub place_at : Target → Block → Instr → List Instr
-place_at t b i = cond (does is_terminator t i) (ends_in t b.instrs) (i ∷ [])
-
--- the terminators of the block of an instruction, by its id
-abbrev pub ends_by : SpillView → ℕ → List Instr
-ends_by view id = elim (slice_get view.live.now.func.blocks (slice_index view.live.now.table.order.block_of.items id)) [
-  | None ↦ []
-  | Some b ↦ drop (position_or_len (does is_terminator view.target.now) b.instrs) b.instrs
-]
+place_at t b i = cond (does is_terminator t i) (ends_of t b.instrs) (i ∷ [])
 
 -- the place of an instruction, by its id
 abbrev pub place_by : SpillView → ℕ → List Instr

@@ -1,6 +1,5 @@
 -- The instructions that touch the range, one after the other, as a plan is made along them.
-use Rattle.std.specs.Prelude.{◌≡◌, ℕ, Bool, true, false, cond, nat_eq, List, [], ◌∷◌, ◌++◌, Option, Some, None, drop, flat_map, slice_get, slice_index}
-use Rattle.std.specs.List.{position_or_len}
+use Rattle.std.specs.Prelude.{◌≡◌, ℕ, Bool, true, false, cond, nat_eq, List, [], ◌∷◌, ◌++◌, Option, Some, None, flat_map, slice_get}
 use Rattle.target_base.specs.declared.types.Target.{Target}
 use Rattle.mir_func.specs.declared.func.Instr.{Instr}
 use Rattle.mir_func.specs.declared.func.Block.{Block}
@@ -9,6 +8,7 @@ use Rattle.mir_func.specs.Binding.{does, is_terminator}
 use Rattle.mir_meaning.specs.Points.{touches}
 use Rattle.spiller.specs.declared.plan.SpillView.{SpillView}
 use Rattle.spiller.specs.declared.remat.Remat.{Remat}
+use Rattle.spiller.specs.Ends.{ends_of}
 use Rattle.spiller.specs.Readings.{goes_in, source_in}
 use Rattle.spiller.specs.Placing.{Spillable}
 use Rattle.spiller.specs.Reaching.{Facts}
@@ -19,18 +19,6 @@ use Rattle.spiller.specs.WholePlan.{with_place}
 -- what the plan for a range rests on: it may be spilled, these are the facts of the function, and the answers of what is rematerialised are the definition's
 abbrev pub MayPlan : SpillView → Remat → Facts → Type 0
 MayPlan view remat facts = Spillable view facts (source_in remat) (goes_in remat)
-
--- the terminators of a block
-abbrev pub ends_of : Target → List Instr → List Instr
-ends_of t [] = []
-ends_of t (i ∷ is) = cond (does is_terminator t i) (i ∷ is) (ends_of t is)
-
--- those of the block of an instruction, by its id
-abbrev pub block_ends : SpillView → ℕ → List Instr
-block_ends view id = elim (slice_get view.live.now.func.blocks (slice_index view.live.now.table.order.block_of.items id)) [
-  | None ↦ []
-  | Some b ↦ drop (position_or_len (does is_terminator view.target.now) b.instrs) b.instrs
-]
 
 -- an instruction that touches the range, with its block and with those behind it
 pub record Mark : Type 0 where

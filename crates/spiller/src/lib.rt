@@ -6,6 +6,7 @@
 //! tested and not proved.
 #![tactic(auto)]
 
+mod ends;
 mod kinds;
 mod places;
 mod plan;

@@ -1,8 +1,8 @@
 //! Which readings of a range are rematerialised: the instruction that defines it is repeated in
 //! place of a reload.
 
-ghost use Rattle.std.specs.Prelude.{◌≡◌, ◌&&◌, ◌++◌, ◌∷◌, [], ℕ, Bool, List, Some, None, false, true, drop, position, find, cond, map, filter, flat_map, is_some, option_map, option_and_then, slice_get, IfOk, OnOk};
-ghost use Rattle.std.specs.List.{list_any, cons_option, position_or_len, AllByRecursion};
+ghost use Rattle.std.specs.Prelude.{◌≡◌, ◌&&◌, ◌++◌, ◌∷◌, [], ℕ, Bool, List, Some, None, false, true, find, cond, map, filter, flat_map, is_some, option_map, option_and_then, slice_get, IfOk, OnOk};
+ghost use Rattle.std.specs.List.{list_any, cons_option, AllByRecursion};
 ghost use Rattle.mir_func.specs.declared.func.Block.{Block};
 ghost use Rattle.mir_func.specs.declared.func.Instr.{Instr};
 ghost use Rattle.live_lanes.specs.Touching.{AreTouched, FindsInstrs};
@@ -13,7 +13,7 @@ ghost use Rattle.mir_func.specs.Binding.{does, effect_of, is_terminator, registe
 ghost use Rattle.mir_meaning.specs.Paths.{has};
 ghost use Rattle.mir_meaning.specs.Places.{same_use};
 ghost use Rattle.spiller.specs.Additions.{own_use, own_uses};
-ghost use Rattle.spiller.specs.Listed.{IsToldBy, Lists, ListsOne, TestsNeedless, TestsOne, ends_by, keyed_by, keyed_copy, keyed_effect, keyed_move, keyed_operands, keyed_readings, keyed_tied_uses, keyed_uses, keyed_way, place_at, readers, tied_own, told_sources};
+ghost use Rattle.spiller.specs.Listed.{IsToldBy, Lists, ListsOne, TestsNeedless, TestsOne, keyed_by, keyed_copy, keyed_effect, keyed_move, keyed_operands, keyed_readings, keyed_tied_uses, keyed_uses, keyed_way, place_at, readers, tied_own, told_sources};
 ghost use Rattle.spiller.specs.Placing.{IsPlainForm};
 ghost use Rattle.spiller.specs.Planned.{TellsRemat, copy_key, way_key};
 ghost use Rattle.spiller.specs.Reaching.{Facts, AreFacts};
@@ -22,6 +22,7 @@ ghost use Rattle.spiller.specs.Rematerialised.{is_constant, definition_class, wh
 ghost use Rattle.spiller.specs.Setting.{is_own, own_lanes};
 ghost use Rattle.spiller.specs.Views.{spilling_of, wish_of, way_of};
 
+use crate::ends::ends_at;
 use crate::plan::SpillView;
 use crate::reaching::{Definition, LaneReading, definitions_of};
 use crate::roles::{IndexedClass, operand_of_range, same_naming};
@@ -264,44 +265,6 @@ fn add_touched(
     }
 }
 
-/// The terminators of the block of an instruction.
-fn ends_at<'a>(view: SpillView<'a>, id: u32) -> &'a [Boxed<Instr>]
-    ensures { result.now ≡ ends_by view.entry id }
-{
-    let position = view.live.position_of(id) as usize;
-    match view.live.func().blocks.as_slice().get(position) {
-        Some(block) => ends_of(view.target, block.instrs.as_slice()),
-        None => &[],
-    }
-}
-
-/// The place of the first terminator.
-fn first_end(target: &Target, instrs: &[Boxed<Instr>]) -> Option<usize>
-    ensures { result ≡ position (does is_terminator target.now) instrs.now }
-{
-    instrs
-        .iter()
-        .position(|instr| is_terminator(target, instr.get()))
-}
-
-/// How many instructions stand before the first terminator.
-fn end_place(target: &Target, instrs: &[Boxed<Instr>]) -> usize
-    ensures { result ≡ position_or_len (does is_terminator target.now) instrs.now }
-{
-    match first_end(target, instrs) {
-        Some(place) => place,
-        None => instrs.len(),
-    }
-}
-
-/// The terminators of a block with these instructions.
-fn ends_of<'a>(target: &Target, instrs: &'a [Boxed<Instr>]) -> &'a [Boxed<Instr>]
-    ensures { result.now ≡ drop (position_or_len (does is_terminator target.now) instrs.now) instrs.now }
-{
-    let place = end_place(target, instrs);
-    instrs.split_at(place.min(instrs.len())).1
-}
-
 /// Lists the readings by one instruction, which is a place by itself.
 fn add_single(
     view: SpillView<'_>,
@@ -505,32 +468,6 @@ fn copy_wish(to: Loc) -> RematConstraint
         Loc::Virtual(_) => RematConstraint::Never,
         Loc::Fixed(r) => RematConstraint::Fixed(r),
     }
-}
-
-/// The instruction that names the place of another: itself, or the first terminator of its block.
-pub(crate) fn place_id(view: SpillView<'_>, instr: &Instr) -> u32 {
-    if !is_terminator(view.target, instr) {
-        return instr.id;
-    }
-    let position = view.live.position_of(instr.id) as usize;
-    let Some(block) = view.live.func().blocks.as_slice().get(position) else {
-        return instr.id;
-    };
-    let instrs = block.instrs.as_slice();
-    match instrs.get(first_terminator(view, instrs)) {
-        Some(first) => first.get().id,
-        None => instr.id,
-    }
-}
-
-/// The place of the first of the terminators at the end of a block, or the block's end.
-pub(crate) fn first_terminator(view: SpillView<'_>, instrs: &[Boxed<Instr>]) -> usize {
-    let count = instrs
-        .iter()
-        .rev()
-        .take_while(|instr| is_terminator(view.target, instr.get()))
-        .count();
-    instrs.len().saturating_sub(count)
 }
 
 /// What a way of reading at a place asks.

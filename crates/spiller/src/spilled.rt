@@ -1,6 +1,6 @@
 //! The call that spills a range.
 
-ghost use Rattle.std.specs.Prelude.{◌≡◌, ◌<◌, ◌≤◌, ◌+◌, ℕ, true, false, cond, IfErr, List, [], Option, Some, IfOk, OnErr, OnOk, drop, take, get_or, unwrap_or, length, map, position};
+ghost use Rattle.std.specs.Prelude.{◌≡◌, ◌<◌, ◌≤◌, ◌+◌, ℕ, true, false, cond, IfErr, List, [], Option, Some, IfOk, OnErr, OnOk, take, get_or, unwrap_or, length, map};
 ghost use Rattle.target_base.specs.declared.types.ClassId.{ClassId as RangeClass};
 ghost use Rattle.live_lanes.specs.declared.live.LiveFunc.{LiveFunc};
 ghost use Rattle.live_edits.specs.LiveRuns.{IsExact};
@@ -12,16 +12,17 @@ ghost use Rattle.spiller.specs.SlotMaps.{slots_of};
 ghost use Rattle.spiller.specs.Slots.{HasFreeSlot, Slots, with_slot};
 ghost use Rattle.spiller.specs.Spilled.{IsSpilled, most_ranges, setting_of, spilled};
 ghost use Rattle.spiller.specs.declared.stop.RunStop.TheVariants as stops;
-ghost use Rattle.std.specs.List.{position_or_len};
 ghost use Rattle.mir_func.specs.Binding.{does, is_terminator};
 ghost use Rattle.live_lanes.specs.Touching.{AreTouched};
 ghost use Rattle.mir_func.specs.declared.func.Block.{Block as LaidBlock};
-ghost use Rattle.spiller.specs.Marks.{IsMark, Mark, MayPlan, block_ends, ended_behind, ends_of, has_ended, with_mark};
+ghost use Rattle.spiller.specs.Ends.{ends_of};
+ghost use Rattle.spiller.specs.Marks.{IsMark, Mark, MayPlan, ended_behind, has_ended, with_mark};
 ghost use Rattle.spiller.specs.MaySpill.{MaySpill};
 ghost use Rattle.spiller.specs.Reaching.{AreFacts, Facts};
 ghost use Rattle.spiller.specs.Views.{planned, spilling_of};
 ghost use Rattle.spiller.specs.WholePlan.{whole_plan, with_place};
 
+use crate::ends::ends_at;
 use crate::places::change_single;
 use crate::plan::{Plan, SpillView};
 use crate::remat::{Remat, plan_remat};
@@ -29,10 +30,9 @@ use crate::seats::change_terminators;
 use crate::slot_map::SlotMap;
 use crate::stop::RunStop;
 use interference::{Matrix, Tinies};
-use mir_func::Instr;
 use mir_func::opcodes::is_terminator;
 use std::alloc::{AllocError, Global};
-use target_base::{Boxed, ClassId, Target};
+use target_base::ClassId;
 
 /// The most range numbers that are given for one function.
 pub const MOST_RANGES: usize = 1_048_576;
@@ -247,42 +247,4 @@ fn change_ends(
         → OnOk result (planned plan.new ≡ with_place (spilling_of view.entry view.entry.slot facts) m.block (ends_of view.entry.target.now m.block.instrs) [] (planned plan.old)) }
 {
     change_terminators(view, ends_at(view, id), remat, plan)
-}
-
-/// The terminators of the block of an instruction.
-fn ends_at<'a>(view: SpillView<'a>, id: u32) -> &'a [Boxed<Instr>]
-    ensures { result.now ≡ block_ends view.entry id }
-{
-    let position = view.live.position_of(id) as usize;
-    match view.live.func().blocks.as_slice().get(position) {
-        Some(block) => ends_of(view.target, block.instrs.as_slice()),
-        None => &[],
-    }
-}
-
-/// The place of the first terminator.
-fn first_end(target: &Target, instrs: &[Boxed<Instr>]) -> Option<usize>
-    ensures { result ≡ position (does is_terminator target.now) instrs.now }
-{
-    instrs
-        .iter()
-        .position(|instr| is_terminator(target, instr.get()))
-}
-
-/// How many instructions stand before the first terminator.
-fn end_place(target: &Target, instrs: &[Boxed<Instr>]) -> usize
-    ensures { result ≡ position_or_len (does is_terminator target.now) instrs.now }
-{
-    match first_end(target, instrs) {
-        Some(place) => place,
-        None => instrs.len(),
-    }
-}
-
-/// The terminators of a block with these instructions.
-fn ends_of<'a>(target: &Target, instrs: &'a [Boxed<Instr>]) -> &'a [Boxed<Instr>]
-    ensures { result.now ≡ drop (position_or_len (does is_terminator target.now) instrs.now) instrs.now }
-{
-    let place = end_place(target, instrs);
-    instrs.split_at(place.min(instrs.len())).1
 }

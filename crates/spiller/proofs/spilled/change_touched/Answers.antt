@@ -1,9 +1,10 @@
 use Rattle.std.proofs.Common.{◌≡◌, ◌∙◌, ◌∷◌, ap, sym, cond, refl, Some, [], Bool, true, false}
 use Rattle.mir_func.specs.Binding.{does, is_terminator}
-use Rattle.spiller.specs.Marks.{ends_of, has_ended}
+use Rattle.spiller.specs.Marks.{has_ended}
 use Rattle.spiller.specs.Views.{planned, spilling_of}
 use Rattle.spiller.specs.WholePlan.{with_place}
 use Rattle.spiller.proofs.MarkLoop.{found-is, found-some, if-then, ok-then, single-planned}
+use Rattle.spiller.specs.Ends.{ends_of}
 use Rattle.spiller.proofs.spilled.change_touched.Goals as goal
 
 pub returns-in-None-clause-ended : goal.returns-in-None-clause-ended

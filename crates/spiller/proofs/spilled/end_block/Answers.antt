@@ -1,8 +1,9 @@
 use Rattle.std.proofs.Common.{◌≡◌, ◌∙◌, ap, sym, cond, Some, [], Bool, false, true}
-use Rattle.spiller.specs.Marks.{ends_of, has_ended}
+use Rattle.spiller.specs.Marks.{has_ended}
 use Rattle.spiller.specs.Views.{planned, spilling_of}
 use Rattle.spiller.specs.WholePlan.{with_place}
 use Rattle.spiller.proofs.MarkLoop.{number-is}
+use Rattle.spiller.specs.Ends.{ends_of}
 use Rattle.spiller.proofs.spilled.end_block.Goals as goal
 
 pub returns-in_ok-change_ends-clause-ended : goal.returns-in_ok-change_ends-clause-ended

@@ -1,8 +1,9 @@
 use Rattle.std.proofs.Common.{subst, arith, None}
 use Rattle.live_edits.proofs.DraftEdits.{any-err}
+use Rattle.live_edits.proofs.DraftPlaces.{take-past}
 use Rattle.spiller.specs.Growing.{HasGrown}
 use Rattle.spiller.specs.SlotMaps.{slots_of}
-use Rattle.spiller.proofs.NewRanges.{none-grown, take-whole}
+use Rattle.spiller.proofs.NewRanges.{none-grown}
 use Rattle.spiller.proofs.spilled.make_ranges.Goals as goal
 
 pub classes-init : goal.classes-init
@@ -25,7 +26,7 @@ returns-in_err-make_range-clause-lists c = λ may keeps.
     c.make_range.ensures.lists c.args.m.now.live (slots_of c.args.slots.now) c.args.classes.now c.classes.class-index may (omega arith) z.0 (z.1 keeps)
 
 pub returns-clause-ok : goal.returns-clause-ok
-returns-clause-ok c = λ may. subst (λ cs. HasGrown c.args.m.now.live (slots_of c.args.slots.now) cs c.classes.m.live (slots_of c.classes.slots)) (take-whole c.classes.class-index c.args.classes.now (omega arith)) (c.classes.invariant may).0
+returns-clause-ok c = λ may. subst (λ cs. HasGrown c.args.m.now.live (slots_of c.args.slots.now) cs c.classes.m.live (slots_of c.classes.slots)) (take-past c.classes.class-index c.args.classes.now (omega arith)) (c.classes.invariant may).0
 
 pub returns-clause-lists : goal.returns-clause-lists
 returns-clause-lists c = λ may keeps. (c.classes.invariant may).1 keeps
