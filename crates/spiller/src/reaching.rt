@@ -10,10 +10,11 @@ ghost use Rattle.live_lanes.specs.Touching.{AreTouched};
 ghost use Rattle.mir_meaning.specs.Points.{Tests};
 ghost use Rattle.spiller.specs.MaySpill.{MaySpill};
 ghost use Rattle.spiller.specs.Reaching.{Reaches};
-ghost use Rattle.spiller.specs.Walks.{touch_of, touches_at, touches_in, dead_at, seen, keeps, rest_behind, Spreads, Enters, reached_at, AddsTouch, IsFlow, HasFlows, AddsSeen, FlowsTo, ListsFlows, lists, told_by};
+ghost use Rattle.spiller.specs.Walks.{touch_of, touches_at, touches_in, dead_at, seen, keeps, rest_behind, Spreads, Enters, reached_at, AddsTouch, IsFlow, HasFlows, AddsSeen, AreReached, FlowsTo, ListsFlows, lists, told_by};
 
 use crate::plan::SpillView;
 use std::alloc::{AllocError, Global};
+use std::collections::BTreeSet;
 
 /// What an instruction does to a lane of the range.
 #[derive(Clone, Copy, PartialEq, Eq)]
@@ -44,9 +45,9 @@ pub(crate) struct LaneFlow {
 }
 
 /// A reading of a lane by an instruction.
-#[derive(Clone, Copy, PartialEq, Eq)]
+#[derive(Clone, Copy, PartialEq, Eq, PartialOrd, Ord)]
 pub(crate) struct LaneReading {
-    pub lane: u32,
+    pub lane: usize,
     pub by: u32,
 }
 
@@ -54,7 +55,7 @@ pub(crate) struct LaneReading {
 #[derive(Drop)]
 pub(crate) struct Definition {
     pub id: u32,
-    pub reached: Vec<LaneReading>,
+    pub reached: BTreeSet<LaneReading>,
 }
 
 /// What an instruction does to a lane of the range.
@@ -246,7 +247,10 @@ fn add_seen(
 {
     'touches: for touch in touches {
         if touch.reads {
-            reached.push(LaneReading { lane, by: touch.id })?;
+            reached.push(LaneReading {
+                lane: lane as usize,
+                by: touch.id,
+            })?;
         }
         if touch.writes {
             return Ok(());
@@ -302,16 +306,42 @@ fn add_definition(
     Ok(())
 }
 
-/// What the definitions of lanes by an instruction reach.
-fn definition_of(view: SpillView<'_>, flows: &[LaneFlow], id: u32) -> Result<Definition, AllocError>
-    ensures id { IfOk result (λ d. d.id ≡ id) }
-    ensures reached { InOrder view.entry.live.now.table → IfOk result (ListsFlows view.entry.live.now.table view.entry.v flows.now) }
+/// The readings that the definitions of lanes by an instruction reach.
+fn readings_reached(
+    view: SpillView<'_>,
+    flows: &[LaneFlow],
+    id: u32,
+) -> Result<Vec<LaneReading>, AllocError>
+    ensures { InOrder view.entry.live.now.table → IfOk result (λ rs. AreReached view.entry.live.now.table view.entry.v flows.now id rs.items) }
 {
     let mut reached = Vec::new(view.alloc);
     'flows: for flow in flows {
         add_definition(view, flow, id, &mut reached)?;
     }
-    Ok(Definition { id, reached })
+    Ok(reached)
+}
+
+/// These readings as a set, in which one is found fast: a constant may reach thousands.
+fn set_of(alloc: Global, readings: &[LaneReading]) -> Result<BTreeSet<LaneReading>, AllocError>
+    ensures { IfOk result (λ all. (k i : ℕ) → lists all.keys k i ≡ lists readings.now k i) }
+{
+    let mut all = BTreeSet::new(alloc);
+    'readings: for reading in readings {
+        all.insert(*reading)?;
+    }
+    Ok(all)
+}
+
+/// What the definitions of lanes by an instruction reach.
+fn definition_of(view: SpillView<'_>, flows: &[LaneFlow], id: u32) -> Result<Definition, AllocError>
+    ensures id { IfOk result (λ d. d.id ≡ id) }
+    ensures reached { InOrder view.entry.live.now.table → IfOk result (ListsFlows view.entry.live.now.table view.entry.v flows.now) }
+{
+    let readings = readings_reached(view, flows, id)?;
+    Ok(Definition {
+        id,
+        reached: set_of(view.alloc, readings.as_slice())?,
+    })
 }
 
 /// How each lane of the range flows.
