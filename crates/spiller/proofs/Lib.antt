@@ -55,6 +55,8 @@ pub mod ListSteps
 pub mod ReadingPlaces
 pub mod ReadingsListed
 pub mod KeyedPlaces
+pub mod ReadingSets
+pub mod PlacedSources
 pub mod RematTold
 pub mod RematTells
 pub mod NothingRepeated

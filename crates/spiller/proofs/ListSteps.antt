@@ -5,6 +5,8 @@ use Rattle.std.specs.Prelude.{Err, IfOk, Ok, filter, filter_map, is_some, nat_eq
 use Rattle.std.specs.List.{AllByRecursion, cons_option, list_any}
 use Rattle.std.proofs.lemmas.List.{append-nil, map-append, take_all, take_more}
 use Rattle.std.proofs.lemmas.List.Elements.{filter-append}
+use Rattle.std.specs.Ordering.{nat_cmp}
+use Rattle.std.specs.BTreeSet.{insert_key}
 use Rattle.meaning.specs.Live.{Among as Member, here as first, there as later}
 use Rattle.target_base.specs.declared.types.Role.{Role}
 use Rattle.target_base.specs.declared.types.Effect.{Effect}
@@ -29,6 +31,8 @@ use Rattle.spiller.specs.declared.remat.RematConstraint.{RematConstraint}
 use Rattle.spiller.specs.declared.remat.RematConstraint.TheVariants as constraints
 use Rattle.target_base.specs.declared.types.IndexId.{IndexId}
 use Rattle.instr_effects.proofs.Loops.{get-same}
+use Rattle.live_lanes.proofs.Flowing.{or-false}
+use Rattle.live_edits.proofs.RunIds.{has-inserted}
 use Rattle.spiller.specs.declared.roles.IndexedClass.{IndexedClass}
 use Rattle.spiller.specs.Additions.{own_uses, seated_operands}
 use Rattle.spiller.specs.Listed.{AreKeyed, none, more, Asks, IsJudged, IsKeyed, Keyed, Lists, ListsOne, keyed_copy, keyed_effect, keyed_move, keyed_operands, keyed_tied, keyed_tied_uses, keyed_uses, keyed_way, readers, tied_own}
@@ -266,23 +270,42 @@ lists-operands view ds is ws old mid new forms ways a b =
 
 -- definitions that go
 
-pub left-one : (test : ℕ → Bool) (id : ℕ) (b c : Bool) (old : List ℕ) → test id ≡ c → b ≡ c → b ≡ false → old ≡ old ++ filter test (id ∷ [])
-left-one test id b c old e g h = sym (ap (λ w. old ++ cond w (id ∷ []) []) (e ∙ (sym g ∙ h)) ∙ append-nil old)
+pub left-one : (test : ℕ → Bool) (id : ℕ) (b c : Bool) (old : List ℕ) → test id ≡ c → b ≡ c → b ≡ false → (n : ℕ) → has n old ≡ (has n old || has n (filter test (id ∷ [])))
+left-one test id b c old e g h n = sym (ap (λ w. has n old || has n (cond w (id ∷ []) [])) (e ∙ (sym g ∙ h)) ∙ or-false (has n old))
 
-pub kept-one : (test : ℕ → Bool) (id : ℕ) (b c : Bool) (old new : List ℕ) → test id ≡ c → b ≡ c → b ≡ true → new ≡ old ++ id ∷ [] → new ≡ old ++ filter test (id ∷ [])
-kept-one test id b c old new e g h is = is ∙ sym (ap (λ w. old ++ cond w (id ∷ []) []) (e ∙ (sym g ∙ h)))
+pub kept-one : (test : ℕ → Bool) (id : ℕ) (b c : Bool) (old new : List ℕ) → test id ≡ c → b ≡ c → b ≡ true → new ≡ insert_key nat_cmp old id → (n : ℕ) → has n new ≡ (has n old || has n (filter test (id ∷ [])))
+kept-one test id b c old new e g h is n =
+    ap (has n) is
+    ∙ (has-inserted old id n
+    ∙ (turned (nat_eq id n) (has n old) ∙ sym (ap (λ w. has n old || has n (cond w (id ∷ []) [])) (e ∙ (sym g ∙ h)))))
+  where
+    turned : (a b : Bool) → cond a true b ≡ (b || cond a true false)
+    turned true true = refl
+    turned true false = refl
+    turned false true = refl
+    turned false false = refl
+
+has-both : (n : ℕ) (xs ys : List ℕ) → has n (xs ++ ys) ≡ (has n xs || has n ys)
+has-both n [] ys = refl
+has-both n (x ∷ xs) ys = go (nat_eq x n) (has-both n xs ys)
+  where
+    go : (a : Bool) → has n (xs ++ ys) ≡ (has n xs || has n ys) → cond a true (has n (xs ++ ys)) ≡ (cond a true (has n xs) || has n ys)
+    go true h = refl
+    go false h = h
 
 pub item-member : {X : Type 0} (xs : List X) (k : ℕ) (x : X) → k < length xs → x ≡ get_or xs k x → Member x xs
 item-member [] k x h e = absurd (omega (arith, h))
 item-member (y ∷ xs) zero x h e = subst (λ z. Member z (y ∷ xs)) (sym e) first
 item-member (y ∷ xs) (suc k) x h e = later (item-member xs k x (omega (arith, h)) e)
 
-pub deleted-step : (test : ℕ → Bool) (ds : List Definition) (k : ℕ) (d : Definition) (old new : List ℕ) → k < length ds → d ≡ get_or ds k d → old ≡ filter test (map (λ d. d.id) (take k ds)) → new ≡ old ++ filter test (d.id ∷ []) → new ≡ filter test (map (λ d. d.id) (take (k + 1) ds))
-deleted-step test ds k d old new h at was is =
-    is
-    ∙ (ap (λ xs. xs ++ filter test (d.id ∷ [])) was
-    ∙ (sym (filter-append test (map (λ (d : Definition). d.id) (take k ds)) (d.id ∷ []))
-    ∙ ap (filter test) (sym (map-append (λ (d : Definition). d.id) (take k ds) (d ∷ [])) ∙ ap (map (λ (d : Definition). d.id)) (ap (λ x. take k ds ++ x ∷ []) at ∙ sym (take_more ds k d h)))))
+pub deleted-step : (test : ℕ → Bool) (ds : List Definition) (k : ℕ) (d : Definition) (old new : List ℕ) → k < length ds → d ≡ get_or ds k d → ((n : ℕ) → has n old ≡ has n (filter test (map (λ d. d.id) (take k ds))))
+    → ((n : ℕ) → has n new ≡ (has n old || has n (filter test (d.id ∷ [])))) → (n : ℕ) → has n new ≡ has n (filter test (map (λ d. d.id) (take (k + 1) ds)))
+deleted-step test ds k d old new h at was is n =
+    is n
+    ∙ (ap (λ b. b || has n (filter test (d.id ∷ []))) (was n)
+    ∙ (sym (has-both n (filter test (map (λ (d : Definition). d.id) (take k ds))) (filter test (d.id ∷ [])))
+    ∙ ap (has n) (sym (filter-append test (map (λ (d : Definition). d.id) (take k ds)) (d.id ∷ []))
+    ∙ ap (filter test) (sym (map-append (λ (d : Definition). d.id) (take k ds) (d ∷ [])) ∙ ap (map (λ (d : Definition). d.id)) (ap (λ x. take k ds ++ x ∷ []) at ∙ sym (take_more ds k d h))))))
 
 -- copies and stores by their operands
 

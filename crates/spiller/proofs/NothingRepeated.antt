@@ -1,7 +1,11 @@
 -- Where no instruction that touches the range can be repeated, nothing is rematerialised.
 use Rattle.std.proofs.Common.{◌≡◌, ◌∙◌, ℕ, true, false, cond, ◌&&◌, List, [], ◌∷◌, Option, Some, None, filter, flat_map, length, map, refl, sym, ap, subst}
-use Rattle.std.specs.Prelude.{find, nat_lt, option_map}
+use Rattle.std.specs.Prelude.{find, nat_lt, option_map, Vec}
+use Rattle.std.specs.Global.{Global}
 use Rattle.std.specs.List.{list_all, list_any}
+use Rattle.std.specs.Ordering.{nat_cmp}
+use Rattle.std.specs.BTreeMap.{is_at}
+use Rattle.std.specs.Map.{lookup}
 use Rattle.target_base.specs.declared.types.Target.{Target}
 use Rattle.target_base.proofs.Tests.{first_of_both, second_of_both}
 use Rattle.meaning.specs.Live.{Among as Member, here as first}
@@ -27,6 +31,8 @@ use Rattle.spiller.specs.Views.{spilling_of}
 use Rattle.spiller.proofs.ReachesTold.{reached-lane}
 use Rattle.spiller.proofs.Basics.{is-false, some-member}
 use Rattle.spiller.proofs.ChangeFits.{nothing-serves}
+use Rattle.spiller.specs.declared.remat.RematSource.{RematSource}
+use Rattle.spiller.specs.declared.remat.UseKey.{UseKey}
 
 module _ (view : SpillView) (may : MaySpill view.target.now view.live.now.func view.live.now.table view.v) (ids : List ℕ) (are : AreTouched view.live.now.table view.v ids) (slot : ℕ) (facts : Facts) (tell : AreFacts view.target.now view.live.now.func view.v facts)
     (plain : (b : Block) (i : Instr) → Member b view.live.now.func.blocks → Member i b.instrs → has i.id ids ≡ true → does is_constant view.target.now i ≡ false) where
@@ -77,9 +83,14 @@ module _ (view : SpillView) (may : MaySpill view.target.now view.live.now.func v
       let z : true ≡ false = sym constant ∙ reached-plain i (flat-in (λ (c : Block). c.instrs) i b f.blocks mb mi) r.0 m.1 in
       cc)
 
-  pub tells-nothing : (r : Remat) → r.sources.items ≡ [] → r.deleted.items ≡ [] → TellsRemat s (source_in r) (goes_in r)
+  no-source : (r : Remat) → r.sources.entries ≡ [] → (key : UseKey) → source_in r key ≡ None
+  no-source r sources key =
+      ap (λ es. option_map (λ (s : RematSource). s.id) (find (λ (s : RematSource). same_key key s.key)
+      (elim (lookup {X = Vec RematSource Global} (is_at (nat_cmp key.at)) es) as (λ q. List RematSource) [ None ↦ [] | Some list ↦ list.items ]))) sources
+
+  pub tells-nothing : (r : Remat) → r.sources.entries ≡ [] → r.deleted.keys ≡ [] → TellsRemat s (source_in r) (goes_in r)
   tells-nothing r sources deleted = record {
-    ways = λ b p y mb mp moves my. ap (λ xs. option_map (λ s. s.id) (find (λ s. same_key (way_key (place_name p) y) s.key) xs)) sources ∙ sym (ap (option_map (λ (d : Instr). d.id)) (none-repeated (way_reading s p y)));
-    copies = λ b i d o mb mi effect is own. ap (λ xs. option_map (λ s. s.id) (find (λ s. same_key (copy_key i.id) s.key) xs)) sources ∙ sym (ap (option_map (λ (d : Instr). d.id)) (none-repeated (copy_reading s i d o)));
+    ways = λ b p y mb mp moves my. no-source r sources (way_key (place_name p) y) ∙ sym (ap (option_map (λ (d : Instr). d.id)) (none-repeated (way_reading s p y)));
+    copies = λ b i d o mb mi effect is own. no-source r sources (copy_key i.id) ∙ sym (ap (option_map (λ (d : Instr). d.id)) (none-repeated (copy_reading s i d o)));
     gone = λ b i mb mi. ap (has i.id) deleted ∙ sym (none-goes b i mb mi);
   }

@@ -13,11 +13,7 @@ use Rattle.std.proofs.lemmas.List.Folds.{list_any-append}
 use Rattle.std.proofs.lemmas.Map.Lookups.{exact_unsigned}
 use Rattle.mir_meaning.specs.Registers.{numbers, has_number}
 use Rattle.interference.proofs.Marked.{numbers-cat}
-use Rattle.spiller.proofs.Basics.{or-swapped}
-
-twice : (a b : Bool) → (a || b) ≡ (a || (a || b))
-twice true b = refl
-twice false b = refl
+use Rattle.spiller.proofs.Basics.{or-swapped, or-twice}
 
 behind : (a b c : Bool) → (a || (b || c)) ≡ ((b || a) || c)
 behind true true c = refl
@@ -31,7 +27,7 @@ inserted (x ∷ xs) k n = go (nat_cmp k x) refl (inserted xs k n)
   where
     go : (r : Ordering) → nat_cmp k x ≡ r → has_number (insert_key nat_cmp xs k) n ≡ (nat_eq n k || has_number xs n) → has_number (match_ordering r (k ∷ x ∷ xs) (x ∷ xs) (x ∷ insert_key nat_cmp xs k)) n ≡ (nat_eq n k || has_number (x ∷ xs) n)
     go Less e rest = refl
-    go Equal e rest = let same : k ≡ x = exact_unsigned k x e in twice (nat_eq n x) (has_number xs n) ∙ ap (λ y. nat_eq n y || has_number (x ∷ xs) n) (sym same)
+    go Equal e rest = let same : k ≡ x = exact_unsigned k x e in or-twice (nat_eq n x) (has_number xs n) ∙ ap (λ y. nat_eq n y || has_number (x ∷ xs) n) (sym same)
     go Greater e rest = ap (λ h. nat_eq n x || h) rest ∙ or-swapped (nat_eq n x) (nat_eq n k) (has_number xs n)
 
 -- the set new has these numbers and those of the set old

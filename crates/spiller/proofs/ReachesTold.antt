@@ -436,7 +436,7 @@ module _ (t : Target) (f : Function) (x : Table) (v : ℕ) (may : MaySpill t f x
   module _ (flows : List LaneFlow) (all : HasFlows x f.blocks v ids (lanes_count (slice_get x.lanes.ranges.items v)) flows) (ds : List Definition) (named : map (λ d. d.id) ds ≡ ids) (each : (d : Definition) → Member d ds → ListsFlows x v flows d) where
     told-forth : (d k i : ℕ) → told_by ds (d, k, i) ≡ true → Reaches t f v d k i
     told-forth d k i h =
-        let z = any-of (λ (a : Definition). nat_eq a.id d && lists a.reached.items k i) ds h in
+        let z = any-of (λ (a : Definition). nat_eq a.id d && lists a.reached.keys k i) ds h in
         let same = eqb-true z.0.id d (first_of_both _ _ z.2) in
         let y = (each z.0 z.1 k i).0 (second_of_both (nat_eq z.0.id d) _ z.2) in
         subst (λ n. Reaches t f v n k i) same (flow-reaches k y.0 (all.each y.0 y.1) y.2 z.0.id i y.3)
@@ -447,7 +447,7 @@ module _ (t : Target) (f : Function) (x : Table) (v : ℕ) (may : MaySpill t f x
         let y = all.all k below.0 in
         let z = map-of (λ (a : Definition). a.id) d ds (subst (Member d) (sym named) (has-member d ids (are.named d ∙ below.1))) in
         let to = reaches-flow k y.0 (all.each y.0 y.1) y.2 d i h in
-        any-in (λ (a : Definition). nat_eq a.id d && lists a.reached.items k i) z.0 ds z.1
+        any-in (λ (a : Definition). nat_eq a.id d && lists a.reached.keys k i) z.0 ds z.1
         (both _ _ (same-test z.0.id d (sym z.2)) ((each z.0 z.1 k i).1 (y.0, y.1, y.2, subst (λ n. FlowsTo x v y.0 n i) z.2 to)))
 
     pub all-told : Tests (λ (p : ℕ × ℕ × ℕ). Reaches t f v p.0 p.1 p.2) (told_by ds)

@@ -28,7 +28,7 @@ use Rattle.spiller.specs.Setting.{Spilling}
 use Rattle.spiller.specs.Walks.{lists, told_by}
 use Rattle.spiller.proofs.ChangeFits.{nothing-serves}
 use Rattle.spiller.proofs.ReachesTold.{finds, ids-are, unnamed}
-use Rattle.spiller.proofs.Basics.{same-truth}
+use Rattle.spiller.proofs.Basics.{same-truth, any-same}
 
 -- tests and lists
 
@@ -37,10 +37,6 @@ decided true true x y = refl
 decided false false x y = refl
 decided true false x y = sym (y.1 (x.0 refl))
 decided false true x y = x.1 (y.0 refl)
-
-any-same : {X : Type 0} (p q : X → Bool) (xs : List X) → ((x : X) → p x ≡ q x) → list_any p xs ≡ list_any q xs
-any-same p q [] h = refl
-any-same p q (x ∷ xs) h = ap (λ b. b || list_any p xs) (h x) ∙ ap (λ b. q x || b) (any-same p q xs h)
 
 any-map : {X : Type 0} (p : ℕ → Bool) (g : X → ℕ) (xs : List X) → list_any p (map g xs) ≡ list_any (λ x. p (g x)) xs
 any-map p g [] = refl
@@ -129,8 +125,8 @@ module _ (t : Target) (f : Function) (x : Table) (v : ℕ) (may : MaySpill t f x
 
   pub test-listed : (by lanes : List ℕ) (d : Definition) → Member d ds → test by lanes d.id ≡ reached_by by lanes d
   test-listed by lanes d m =
-      any-same (λ i. list_any (λ k. told_by ds (d.id, k, i)) lanes) (λ i. list_any (λ k. lists d.reached.items k i) lanes) by
-      (λ i. any-same (λ k. told_by ds (d.id, k, i)) (λ k. lists d.reached.items k i) lanes (λ k. one-told (λ (e : Definition). lists e.reached.items k i) ds d apart m))
+      any-same (λ i. list_any (λ k. told_by ds (d.id, k, i)) lanes) (λ i. list_any (λ k. lists d.reached.keys k i) lanes) by
+      (λ i. any-same (λ k. told_by ds (d.id, k, i)) (λ k. lists d.reached.keys k i) lanes (λ k. one-told (λ (e : Definition). lists e.reached.keys k i) ds d apart m))
 
   pub test-untouched : (by lanes : List ℕ) (i : Instr) → Member i all → touches v i ≡ false → test by lanes i.id ≡ false
   test-untouched by lanes i m e = same-truth _ _ (λ h. absurd (none h)) (λ h. absurd (cc))
@@ -150,7 +146,7 @@ module _ (t : Target) (f : Function) (x : Table) (v : ℕ) (may : MaySpill t f x
       none h =
           let a = any-of (λ n. list_any (λ k. told_by ds (i.id, k, n)) lanes) by h in
           let b = any-of (λ k. told_by ds (i.id, k, a.0)) lanes a.2 in
-          let d = any-of (λ (e : Definition). nat_eq e.id i.id && lists e.reached.items b.0 a.0) ds b.2 in
+          let d = any-of (λ (e : Definition). nat_eq e.id i.id && lists e.reached.keys b.0 a.0) ds b.2 in
           let same = eqb-true d.0.id i.id (left-of _ _ d.2) in
           let there : has i.id ids ≡ true = member-has i.id ids (subst (λ n. Member n ids) same (subst (Member d.0.id) are.named (map-in (λ (e : Definition). e.id) d.0 ds d.1))) in
           let both : false ≡ true = sym out ∙ there in

@@ -18,6 +18,7 @@ use Rattle.mir_func.specs.declared.func.Instr.{Instr}
 use Rattle.mir_func.specs.declared.func.Block.{Block}
 use Rattle.mir_func.specs.Value.{Function}
 use Rattle.mir_func.specs.Binding.{Bound, TiedPair, does, effect_of, is_terminator, operand_class, passes, same_index}
+use Rattle.mir_meaning.specs.Paths.{has}
 use Rattle.mir_meaning.specs.Places.{Using, Variable, same_class, variable}
 use Rattle.mir_meaning.specs.Points.{is_range}
 use Rattle.instr_effects.proofs.Members.{either-elim, flat-of, left-in, map-in, map-of, member-elim, member-none}
@@ -35,7 +36,7 @@ use Rattle.spiller.specs.Additions.{own_use, own_uses, seated_operands}
 use Rattle.spiller.specs.Listed.{AreKeyed, IsJudged, IsKeyed, IsToldBy, Keyed, Lists, TestsNeedless, keyed_by, keyed_copy, keyed_effect, keyed_move, keyed_operands, keyed_readings, keyed_tied, keyed_way, told_sources}
 use Rattle.spiller.specs.Planned.{TellsRemat, copy_key, is_move_place, way_key}
 use Rattle.spiller.specs.Reaching.{AreFacts, Facts}
-use Rattle.spiller.specs.Readings.{AreDefinitions, IsReading, TellConstants, goes_in, same_key, source_in}
+use Rattle.spiller.specs.Readings.{AreDefinitions, IsReading, TellConstants, goes_in, same_key, source_in, sources_at, placed_at}
 use Rattle.spiller.specs.Rematerialised.{Reading, copy_reading, places_of, repeated_for, tied_readings, way_reading, ways_read}
 use Rattle.spiller.specs.Setting.{Spilling, is_own}
 use Rattle.spiller.specs.Spilled.{place_name}
@@ -46,6 +47,8 @@ use Rattle.spiller.proofs.ReadingPlaces.{in-line, place-there}
 use Rattle.spiller.proofs.ReadingsListed.{finds}
 use Rattle.spiller.proofs.RematTold.{goes, goes-tests, gone-is, keyed-in, keyed-of, found-source, source-is}
 use Rattle.spiller.specs.Ends.{ends_of}
+use Rattle.spiller.proofs.PlacedSources.{found-there}
+use Rattle.spiller.specs.declared.remat.RematSource.{RematSource}
 
 one-class : (x y : Option ClassId) → same_class x y ≡ true → x ≡ y
 one-class None None h = refl
@@ -223,18 +226,27 @@ module _ (view : SpillView) (may : MaySpill view.target.now view.live.now.func v
           let z = keyed-in s (keyed_by view ids s) us keyed (keyed_copy s i d o) (keyed-forth view may ids are slot facts b mb (i ∷ []) mp (keyed_copy s i d o) m) in
           (z.0, z.1, ap (same_key key) z.2.key ∙ both (nat_eq key.at key.at) true (eq-eqb key.at key.at refl) refl)
 
-  pub tells : (r : Remat) → r.sources.items ≡ flat_map told_sources us → r.deleted.items ≡ filter (goes view may ids ds told slot facts tell us keyed judged) (map (λ d. d.id) ds) → TellsRemat s (source_in r) (goes_in r)
+  -- the source of a reading, among those of its place, is the first of all
+  source-found : (r : Remat) → ((n : ℕ) → sources_at r.sources n ≡ placed_at n (flat_map told_sources us)) → (key : UseKey)
+      → source_in r key ≡ option_map (λ s. s.id) (find (λ (s : RematSource). same_key key s.key) (flat_map told_sources us))
+  source-found r sources key =
+      ap (λ xs. option_map (λ (s : RematSource). s.id) (find (λ (s : RematSource). same_key key s.key) xs)) (sources key.at)
+      ∙ ap (option_map (λ (s : RematSource). s.id)) (found-there key (flat_map told_sources us))
+
+  pub tells : (r : Remat) → ((n : ℕ) → sources_at r.sources n ≡ placed_at n (flat_map told_sources us)) → ((n : ℕ) → has n r.deleted.keys ≡ has n (filter (goes view may ids ds told slot facts tell us keyed judged) (map (λ d. d.id) ds))) → TellsRemat s (source_in r) (goes_in r)
   tells r sources deleted = record {
-    ways = λ b p x mb mp moves mx. ap (λ xs. option_map (λ s. s.id) (find (λ s. same_key (way_key (place_name p) x) s.key) xs)) sources ∙ ways-told b p x mb mp moves mx;
-    copies = λ b i d o mb mi effect is own. ap (λ xs. option_map (λ s. s.id) (find (λ s. same_key (copy_key i.id) s.key) xs)) sources ∙ copies-told b i d o mb mi effect is own;
-    gone = λ b i mb mi. gone-is view may ids ds told slot facts tell us keyed judged r.deleted.items deleted b i mb mi;
+    ways = λ b p x mb mp moves mx. source-found r sources (way_key (place_name p) x) ∙ ways-told b p x mb mp moves mx;
+    copies = λ b i d o mb mi effect is own. source-found r sources (copy_key i.id) ∙ copies-told b i d o mb mi effect is own;
+    gone = λ b i mb mi.
+        deleted i.id
+        ∙ gone-is view may ids ds told slot facts tell us keyed judged (filter (goes view may ids ds told slot facts tell us keyed judged) (map (λ d. d.id) ds)) refl b i mb mi;
   }
 
 pub plan-tells : (view : SpillView) (ids : List ℕ) (ds : List Definition) (us : List RematUse) (r : Remat) → map (λ d. d.id) ds ≡ ids → IsToldBy view ids ds
     → TellConstants view.target.now view.live.now.func view.live.now.table ds
     → (MaySpill view.target.now view.live.now.func view.live.now.table view.v → AreTouched view.live.now.table view.v ids → Lists view ds (keyed_by view ids) [] us)
-    → r.sources.items ≡ flat_map told_sources us
-    → ((slot : ℕ) (facts : Facts) (test : ℕ → Bool) → FindsInstrs view.live.now.table view.live.now.func.blocks → TestsNeedless (spilling_of view slot facts) ds us test → r.deleted.items ≡ filter test (map (λ d. d.id) ds))
+    → ((n : ℕ) → sources_at r.sources n ≡ placed_at n (flat_map told_sources us))
+    → ((slot : ℕ) (facts : Facts) (test : ℕ → Bool) → FindsInstrs view.live.now.table view.live.now.func.blocks → TestsNeedless (spilling_of view slot facts) ds us test → (n : ℕ) → has n r.deleted.keys ≡ has n (filter test (map (λ d. d.id) ds)))
     → (slot : ℕ) (facts : Facts) → MaySpill view.target.now view.live.now.func view.live.now.table view.v → AreTouched view.live.now.table view.v ids → AreFacts view.target.now view.live.now.func view.v facts → TellsRemat (spilling_of view slot facts) (source_in r) (goes_in r)
 plan-tells view ids ds us r named told constants listed sources deleted slot facts may are tell =
     let s = spilling_of view slot facts in

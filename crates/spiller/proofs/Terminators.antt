@@ -20,9 +20,9 @@ use Rattle.spiller.specs.Rematerialised.{all_readings, is_constant, is_remateria
 use Rattle.spiller.specs.Spilled.{becomes, change, place_change}
 use Rattle.spiller.specs.Views.{gap_behind, own_setting, spilling_of}
 use Rattle.spiller.specs.Planned.{is_move_place}
+use Rattle.spiller.specs.Moving.{is_placed}
 use Rattle.spiller.specs.Placing.{AreTerminators, IsPlainForm, KnownPlace, LiveAlike, Spillable, last_name}
 use Rattle.spiller.proofs.Singles.{block-in, finds, form, given, live, ordered, other-is}
-use Rattle.spiller.specs.Moving.{is_placed}
 use Rattle.spiller.proofs.ListSeats.{get-seat}
 
 known-of : (test : Effect → Bool) (q : Option Effect) → passes test q ≡ true → (e : Effect) × (q ≡ Some e) × (test e ≡ true)

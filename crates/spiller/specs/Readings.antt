@@ -1,10 +1,14 @@
 -- What is planned to be rematerialised, as the definition's words name it.
-use Rattle.std.specs.Prelude.{◌≡◌, map, is_some, not, ℕ, Bool, true, false, ◌&&◌, nat_eq, slice_get, find, List, [], ◌∷◌, Option, Some, None, option_map}
+use Rattle.std.specs.Prelude.{◌≡◌, filter, map, is_some, not, ℕ, Bool, true, false, ◌&&◌, nat_eq, slice_get, find, List, [], ◌∷◌, Option, Some, None, option_map, Vec}
 use Rattle.std.specs.List.{list_any}
+use Rattle.std.specs.Ordering.{nat_cmp}
+use Rattle.std.specs.BTreeMap.{BTreeMap, get}
+use Rattle.std.specs.Global.{Global}
 use Rattle.mir_meaning.specs.Paths.{has}
 use Rattle.spiller.specs.declared.reaching.Definition.{Definition}
 use Rattle.spiller.specs.declared.reaching.LaneReading.{LaneReading}
 use Rattle.spiller.specs.declared.remat.Remat.{Remat}
+use Rattle.spiller.specs.declared.remat.RematSource.{RematSource}
 use Rattle.spiller.specs.declared.remat.RematUse.{RematUse}
 use Rattle.spiller.specs.declared.remat.UseKey.{UseKey}
 use Rattle.target_base.specs.declared.types.Target.{Target}
@@ -33,13 +37,21 @@ same_ways a b = false
 abbrev pub same_key : UseKey → UseKey → Bool
 same_key a b = nat_eq a.at b.at && same_ways a.indexed_class b.indexed_class
 
+-- what is repeated for the readings at a place
+abbrev pub sources_at : BTreeMap ℕ (Vec RematSource Global) → ℕ → List RematSource
+sources_at m n = elim (get nat_cmp m n) [ None ↦ [] | Some v ↦ v.items ]
+
+-- those of a list that are for the readings at a place
+abbrev pub placed_at : ℕ → List RematSource → List RematSource
+placed_at n xs = filter (λ s. nat_eq n s.key.at) xs
+
 -- the id of the instruction that is repeated for a reading
 abbrev pub source_in : Remat → UseKey → Option ℕ
-source_in r key = option_map (λ s. s.id) (find (λ s. same_key key s.key) r.sources.items)
+source_in r key = option_map (λ s. s.id) (find (λ s. same_key key s.key) (sources_at r.sources key.at))
 
 -- an instruction isn't needed any more
 abbrev pub goes_in : Remat → ℕ → Bool
-goes_in r id = has id r.deleted.items
+goes_in r id = has id r.deleted.keys
 
 -- a reading of one of these lanes by one of these instructions is listed
 abbrev pub reached_in : List ℕ → List ℕ → List LaneReading → Bool
@@ -47,7 +59,7 @@ reached_in by lanes rs = list_any (λ i. list_any (λ k. lists rs k i) lanes) by
 
 -- a definition reaches the reading of these lanes by these instructions: one of any lane counts
 abbrev pub reached_by : List ℕ → List ℕ → Definition → Bool
-reached_by by lanes d = reached_in by lanes d.reached.items
+reached_by by lanes d = reached_in by lanes d.reached.keys
 
 -- the definition reaches the reading, of a range that is spilled so
 abbrev pub reaches_use : Spilling → Definition → RematUse → Bool

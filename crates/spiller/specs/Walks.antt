@@ -107,10 +107,14 @@ FlowsTo x v flow id i =
     let at = slice_index x.order.block_of.items id in
     ((touch_of x v flow.lane id).writes ≡ true) × IsSeen (successors x.flow.items) flow at (rest_behind id (touches_at flow.blocks.items at)) i
 
--- the definition lists all readings to which what it writes flows, by these flows of lanes
+-- these are all readings to which what an instruction writes flows, by these flows of lanes
+abbrev pub AreReached : Table → ℕ → List LaneFlow → ℕ → List LaneReading → Type 0
+AreReached x v flows id rs = (k i : ℕ) → (lists rs k i ≡ true) ↔ ((flow : LaneFlow) × Member flow flows × (flow.lane ≡ k) × FlowsTo x v flow id i)
+
+-- the definition has them
 abbrev pub ListsFlows : Table → ℕ → List LaneFlow → Definition → Type 0
-ListsFlows x v flows d = (k i : ℕ) → (lists d.reached.items k i ≡ true) ↔ ((flow : LaneFlow) × Member flow flows × (flow.lane ≡ k) × FlowsTo x v flow d.id i)
+ListsFlows x v flows d = AreReached x v flows d.id d.reached.keys
 
 -- the reading is listed at one of these definitions, that by instruction d
 abbrev pub told_by : List Definition → ℕ × ℕ × ℕ → Bool
-told_by ds p = list_any (λ d. nat_eq d.id p.0 && lists d.reached.items p.1 p.2) ds
+told_by ds p = list_any (λ d. nat_eq d.id p.0 && lists d.reached.keys p.1 p.2) ds

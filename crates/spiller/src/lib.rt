@@ -2,8 +2,8 @@
 //! own for the moment (LLVM's InlineSpiller, with rematerialisation).
 //!
 //! Begin with `spilled`; which values are made anew is in `remat` and `reaching`, and slots are in
-//! `slot_map`. That slots are the definition's is proved; that what spilling makes is the definition's is
-//! tested and not proved.
+//! `slot_map`. That what spilling makes is the definition's (`specs/Spilled.antt`), and when it is
+//! refused, is proved, and so is that slots are the definition's.
 #![tactic(auto)]
 
 mod ends;

@@ -11,11 +11,12 @@ ghost use Rattle.mir_meaning.specs.Points.{Tests};
 ghost use Rattle.spiller.specs.MaySpill.{MaySpill};
 ghost use Rattle.spiller.specs.Reaching.{Reaches};
 ghost use Rattle.spiller.specs.Readings.{TellConstants, TellsConstant};
-ghost use Rattle.spiller.specs.Walks.{touch_of, touches_at, touches_in, dead_at, seen, keeps, rest_behind, Spreads, Enters, reached_at, AddsTouch, IsFlow, HasFlows, AddsSeen, FlowsTo, ListsFlows, lists, told_by};
+ghost use Rattle.spiller.specs.Walks.{touch_of, touches_at, touches_in, dead_at, seen, keeps, rest_behind, Spreads, Enters, reached_at, AddsTouch, IsFlow, HasFlows, AddsSeen, AreReached, FlowsTo, ListsFlows, lists, told_by};
 
 use crate::plan::SpillView;
 use crate::remat::is_repeatable_id;
 use std::alloc::{AllocError, Global};
+use std::collections::BTreeSet;
 
 /// What an instruction does to a lane of the range.
 #[derive(Clone, Copy, PartialEq, Eq)]
@@ -46,9 +47,9 @@ pub(crate) struct LaneFlow {
 }
 
 /// A reading of a lane by an instruction.
-#[derive(Clone, Copy, PartialEq, Eq)]
+#[derive(Clone, Copy, PartialEq, Eq, PartialOrd, Ord)]
 pub(crate) struct LaneReading {
-    pub lane: u32,
+    pub lane: usize,
     pub by: u32,
 }
 
@@ -58,7 +59,7 @@ pub(crate) struct Definition {
     pub id: u32,
     /// Whether the instruction is a constant or an address, which alone is repeated.
     pub is_constant: bool,
-    pub reached: Vec<LaneReading>,
+    pub reached: BTreeSet<LaneReading>,
 }
 
 /// What an instruction does to a lane of the range.
@@ -250,7 +251,10 @@ fn add_seen(
 {
     'touches: for touch in touches {
         if touch.reads {
-            reached.push(LaneReading { lane, by: touch.id })?;
+            reached.push(LaneReading {
+                lane: lane as usize,
+                by: touch.id,
+            })?;
         }
         if touch.writes {
             return Ok(());
@@ -306,20 +310,43 @@ fn add_definition(
     Ok(())
 }
 
+/// The readings that the definitions of lanes by an instruction reach.
+fn readings_reached(
+    view: SpillView<'_>,
+    flows: &[LaneFlow],
+    id: u32,
+) -> Result<Vec<LaneReading>, AllocError>
+    ensures { InOrder view.entry.live.now.table → IfOk result (λ rs. AreReached view.entry.live.now.table view.entry.v flows.now id rs.items) }
+{
+    let mut reached = Vec::new(view.alloc);
+    'flows: for flow in flows {
+        add_definition(view, flow, id, &mut reached)?;
+    }
+    Ok(reached)
+}
+
+/// These readings as a set, in which one is found fast: a constant may reach thousands.
+fn set_of(alloc: Global, readings: &[LaneReading]) -> Result<BTreeSet<LaneReading>, AllocError>
+    ensures { IfOk result (λ all. (k i : ℕ) → lists all.keys k i ≡ lists readings.now k i) }
+{
+    let mut all = BTreeSet::new(alloc);
+    'readings: for reading in readings {
+        all.insert(*reading)?;
+    }
+    Ok(all)
+}
+
 /// What the definitions of lanes by an instruction reach.
 fn definition_of(view: SpillView<'_>, flows: &[LaneFlow], id: u32) -> Result<Definition, AllocError>
     ensures id { IfOk result (λ d. d.id ≡ id) }
     ensures constant { IfOk result (λ d. TellsConstant view.entry.target.now view.entry.live.now.func view.entry.live.now.table d) }
     ensures reached { InOrder view.entry.live.now.table → IfOk result (ListsFlows view.entry.live.now.table view.entry.v flows.now) }
 {
-    let mut reached = Vec::new(view.alloc);
-    'flows: for flow in flows {
-        add_definition(view, flow, id, &mut reached)?;
-    }
+    let readings = readings_reached(view, flows, id)?;
     Ok(Definition {
         id,
         is_constant: is_repeatable_id(view, id),
-        reached,
+        reached: set_of(view.alloc, readings.as_slice())?,
     })
 }
 

@@ -1,7 +1,9 @@
 //! Which readings of a range are rematerialised: the instruction that defines it is repeated in
 //! place of a reload.
 
-ghost use Rattle.std.specs.Prelude.{◌≡◌, ◌&&◌, ◌++◌, ◌∷◌, [], ℕ, Bool, List, Some, None, false, true, find, cond, map, filter, flat_map, is_some, option_map, option_and_then, slice_get, IfOk, OnOk};
+ghost use Rattle.std.specs.Prelude.{◌≡◌, ◌&&◌, ◌||◌, nat_eq, ◌++◌, ◌∷◌, [], ℕ, Bool, List, Some, None, false, true, find, cond, map, filter, flat_map, is_some, option_map, option_and_then, slice_get, IfOk, OnOk};
+ghost use Rattle.std.specs.Ordering.{nat_cmp};
+ghost use Rattle.std.specs.BTreeMap.{get};
 ghost use Rattle.std.specs.List.{list_any, cons_option, AllByRecursion};
 ghost use Rattle.mir_func.specs.declared.func.Block.{Block};
 ghost use Rattle.mir_func.specs.declared.func.Instr.{Instr};
@@ -12,15 +14,17 @@ ghost use Rattle.target_base.specs.declared.types.Effect.TheVariants as effects;
 ghost use Rattle.mir_func.specs.Binding.{does, effect_of, is_terminator, register_at, tied_number};
 ghost use Rattle.mir_meaning.specs.Paths.{has};
 ghost use Rattle.mir_meaning.specs.Places.{same_use};
+ghost use Rattle.mir_meaning.specs.Registers.{numbers};
 ghost use Rattle.spiller.specs.Additions.{own_use, own_uses};
 ghost use Rattle.spiller.specs.Listed.{IsToldBy, Lists, ListsOne, TestsNeedless, TestsOne, keyed_by, keyed_copy, keyed_effect, keyed_move, keyed_operands, keyed_readings, keyed_tied_uses, keyed_uses, keyed_way, place_at, readers, tied_own, told_sources};
 ghost use Rattle.spiller.specs.Placing.{IsPlainForm};
 ghost use Rattle.spiller.specs.Planned.{TellsRemat, copy_key, way_key};
 ghost use Rattle.spiller.specs.Reaching.{Facts, AreFacts};
-ghost use Rattle.spiller.specs.Readings.{same_ways, same_key, source_in, goes_in, reached_in, reached_by, reaches_use, needs_value, is_only_repeated, alone, reached_by_constant, IsReading, AreDefinitions, TellConstants};
+ghost use Rattle.spiller.specs.Readings.{same_ways, same_key, source_in, goes_in, placed_at, reached_by, sources_at, reaches_use, needs_value, is_only_repeated, alone, reached_by_constant, IsReading, AreDefinitions, TellConstants};
 ghost use Rattle.spiller.specs.Rematerialised.{is_constant, definition_class, whole_class, repeatable_class, serves, if_whole, copy_wish, Within, Reading, repeated_for};
 ghost use Rattle.spiller.specs.Setting.{is_own, own_lanes};
 ghost use Rattle.spiller.specs.Views.{spilling_of, wish_of, way_of};
+ghost use Rattle.spiller.specs.Walks.{lists};
 
 use crate::ends::ends_at;
 use crate::plan::SpillView;
@@ -31,6 +35,7 @@ use mir_func::opcodes::{effect_of, is_terminator, next_role, roles_of, tied_numb
 use mir_func::operands::register_at;
 use mir_func::{Instr, Loc, Operand, RegOp};
 use std::alloc::{AllocError, Global};
+use std::collections::{BTreeMap, BTreeSet};
 use target_base::classes::{are_within, class_of, holds, is_spill};
 use target_base::roles::is_copy;
 use target_base::{Boxed, ClassId, Effect, IndexId, Reg, Role, Target};
@@ -84,9 +89,10 @@ struct RematSource {
 /// What is rematerialised.
 #[derive(Drop)]
 pub(crate) struct Remat {
-    sources: Vec<RematSource>,
+    /// What is repeated for readings, by the names of their places.
+    sources: BTreeMap<u32, Vec<RematSource>>,
     /// The definitions that go, by their ids.
-    deleted: Vec<u32>,
+    deleted: BTreeSet<u32>,
 }
 
 /// Whether both name a way of reading alike, or neither names one.
@@ -122,9 +128,19 @@ impl Remat {
     pub fn source(&self, key: UseKey) -> Option<u32>
         ensures { result ≡ source_in self.now key }
     {
-        match find_source(self.sources.as_slice(), key) {
+        match find_source(self.sources_at(key.at), key) {
             None => None,
             Some(source) => Some(source.id),
+        }
+    }
+
+    /// What is repeated for the readings at a place.
+    fn sources_at(&self, at: u32) -> &[RematSource]
+        ensures { result.now ≡ sources_at self.now.sources at }
+    {
+        match self.sources.get(&at) {
+            None => &[],
+            Some(list) => list.as_slice(),
         }
     }
 
@@ -132,7 +148,7 @@ impl Remat {
     pub fn is_deleted(&self, id: u32) -> bool
         ensures { result ≡ goes_in self.now id }
     {
-        has_id(self.deleted.as_slice(), id)
+        self.deleted.contains(&id)
     }
 }
 
@@ -169,12 +185,12 @@ pub(crate) fn plan_remat(view: SpillView<'_>, touched: &[u32]) -> Result<Remat, 
 
 /// Nothing is rematerialised.
 fn no_remat(view: SpillView<'_>) -> Remat
-    ensures sources { result.sources.items ≡ [] }
-    ensures deleted { result.deleted.items ≡ [] }
+    ensures sources { result.sources.entries ≡ [] }
+    ensures deleted { result.deleted.keys ≡ [] }
 {
     Remat {
-        sources: Vec::new(view.alloc),
-        deleted: Vec::new(view.alloc),
+        sources: BTreeMap::new(view.alloc),
+        deleted: BTreeSet::new(view.alloc),
     }
 }
 
@@ -206,8 +222,8 @@ fn remat_of(
     definitions: &[Definition],
     readings: &[RematUse],
 ) -> Result<Remat, AllocError>
-    ensures sources { IfOk result (λ r. r.sources.items ≡ flat_map told_sources readings.now) }
-    ensures deleted { IfOk result (λ r. (slot : ℕ) (facts : Facts) (test : ℕ → Bool) → FindsInstrs view.entry.live.now.table view.entry.live.now.func.blocks → TestsNeedless (spilling_of view.entry slot facts) definitions.now readings.now test → r.deleted.items ≡ filter test (map (λ d. d.id) definitions.now)) }
+    ensures sources { IfOk result (λ r. (n : ℕ) → sources_at r.sources n ≡ placed_at n (flat_map told_sources readings.now)) }
+    ensures deleted { IfOk result (λ r. (slot : ℕ) (facts : Facts) (test : ℕ → Bool) → FindsInstrs view.entry.live.now.table view.entry.live.now.func.blocks → TestsNeedless (spilling_of view.entry slot facts) definitions.now readings.now test → (n : ℕ) → has n r.deleted.keys ≡ has n (filter test (map (λ d. d.id) definitions.now))) }
 {
     Ok(Remat {
         sources: sources_of(view, readings)?,
@@ -713,65 +729,79 @@ fn tied_own(
     }
 }
 
-/// Whether an index picks a lane of the range.
-fn picks_lane(view: SpillView<'_>, index: Option<IndexId>, lane: u32) -> bool
-    ensures { (slot : ℕ) (facts : Facts) → result ≡ has lane (own_lanes (spilling_of view.entry slot facts) index) }
-{
-    match index {
-        None => (lane as usize) < view.lane_count(),
-        Some(index) => has_lane(view.target.lanes_at(index), lane),
-    }
-}
-
-/// Whether a lane is one of these.
-fn has_lane(lanes: &[u8], lane: u32) -> bool
-    ensures { result ≡ has lane lanes.now }
-{
-    'lanes: for other in lanes {
-        if *other as u32 == lane {
-            return true;
-        }
-    }
-    false
-}
-
-/// Whether an instruction is one of these.
-fn has_id(ids: &[u32], id: u32) -> bool
-    ensures { result ≡ has id ids.now }
-{
-    'ids: for other in ids {
-        if *other == id {
-            return true;
-        }
-    }
-    false
-}
-
-/// Whether a lane and an instruction are among those of a reading.
-fn is_part(view: SpillView<'_>, reading: &RematUse, reached: LaneReading) -> bool
-    ensures { (slot : ℕ) (facts : Facts) → result ≡ (has reached.lane (own_lanes (spilling_of view.entry slot facts) reading.now.demand.index) && has reached.by reading.now.by.items) }
-{
-    has_id(reading.by.as_slice(), reached.by)
-        && picks_lane(view, reading.demand.index, reached.lane)
-}
-
 /// Whether a definition reaches a reading: at one of its instructions, of one of its lanes.
 fn reaches(view: SpillView<'_>, definition: &Definition, reading: &RematUse) -> bool
     ensures { (slot : ℕ) (facts : Facts) → result ≡ reached_by reading.now.by.items (own_lanes (spilling_of view.entry slot facts) reading.now.demand.index) definition.now }
 {
-    is_one_part(view, definition.reached.as_slice(), reading)
+    reaches_one(
+        view,
+        definition,
+        reading.demand.index,
+        reading.by.as_slice(),
+    )
 }
 
-/// Whether one of these is among the lanes and instructions of a reading.
-fn is_one_part(view: SpillView<'_>, reached: &[LaneReading], reading: &RematUse) -> bool
-    ensures { (slot : ℕ) (facts : Facts) → result ≡ reached_in reading.now.by.items (own_lanes (spilling_of view.entry slot facts) reading.now.demand.index) reached.now }
+/// Whether a definition reaches one of these instructions, at a lane that the index picks.
+fn reaches_one(
+    view: SpillView<'_>,
+    definition: &Definition,
+    index: Option<IndexId>,
+    by: &[u32],
+) -> bool
+    ensures { (slot : ℕ) (facts : Facts) → result ≡ reached_by by.now (own_lanes (spilling_of view.entry slot facts) index) definition.now }
 {
-    'parts: for one in reached {
-        if is_part(view, reading, *one) {
+    'instrs: for id in by {
+        if reaches_instr(view, definition, index, *id) {
             return true;
         }
     }
     false
+}
+
+/// Whether a definition reaches an instruction, at a lane that the index picks.
+fn reaches_instr(
+    view: SpillView<'_>,
+    definition: &Definition,
+    index: Option<IndexId>,
+    id: u32,
+) -> bool
+    ensures { (slot : ℕ) (facts : Facts) → result ≡ list_any (λ k. lists definition.now.reached.keys k id) (own_lanes (spilling_of view.entry slot facts) index) }
+{
+    match index {
+        None => reaches_some_lane(definition, view.lane_count(), id),
+        Some(index) => reaches_one_lane(definition, view.target.lanes_at(index), id),
+    }
+}
+
+/// Whether a definition reaches an instruction at one of these lanes.
+fn reaches_one_lane(definition: &Definition, lanes: &[u8], id: u32) -> bool
+    ensures { result ≡ list_any (λ k. lists definition.now.reached.keys k id) lanes.now }
+{
+    'lanes: for k in lanes {
+        if reaches_lane(definition, *k as usize, id) {
+            return true;
+        }
+    }
+    false
+}
+
+/// Whether a definition reaches an instruction at one of so many lanes, from the first one on.
+fn reaches_some_lane(definition: &Definition, count: usize, id: u32) -> bool
+    ensures { result ≡ list_any (λ k. lists definition.now.reached.keys k id) (numbers 0 count) }
+{
+    'lanes: for k in 0..count {
+        if reaches_lane(definition, k, id) {
+            return true;
+        }
+    }
+    false
+}
+
+/// Whether a definition reaches an instruction at a lane.
+fn reaches_lane(definition: &Definition, lane: usize, id: u32) -> bool
+    ensures { result ≡ lists definition.now.reached.keys lane id }
+{
+    definition.reached.contains(&LaneReading { lane, by: id })
 }
 
 /// The definition that reaches a reading, where there is just one.
@@ -890,28 +920,64 @@ fn definition_class(roles: &[Role]) -> Option<ClassId>
     }
 }
 
-/// The readings that are rematerialised, each with its source.
-fn sources_of(view: SpillView<'_>, readings: &[RematUse]) -> Result<Vec<RematSource>, AllocError>
-    ensures { IfOk result (λ sources. sources.items ≡ flat_map told_sources readings.now) }
+/// What is repeated for the readings that are rematerialised, by the names of their places.
+fn sources_of(
+    view: SpillView<'_>,
+    readings: &[RematUse],
+) -> Result<BTreeMap<u32, Vec<RematSource>>, AllocError>
+    ensures { IfOk result (λ sources. (n : ℕ) → sources_at sources n ≡ placed_at n (flat_map told_sources readings.now)) }
 {
-    let mut sources = Vec::new(view.alloc);
+    let mut sources = BTreeMap::new(view.alloc);
     'readings: for reading in readings {
-        add_source(reading, &mut sources)?;
+        add_source(view.alloc, reading, &mut sources)?;
     }
     Ok(sources)
 }
 
-/// Adds a reading with its source, if it is rematerialised.
-fn add_source(reading: &RematUse, sources: &mut Vec<RematSource>) -> Result<(), AllocError>
-    ensures { OnOk result (sources.new.items ≡ sources.old.items ++ told_sources reading.now) }
+/// Adds what is repeated for a reading, if it is rematerialised.
+fn add_source(
+    alloc: Global,
+    reading: &RematUse,
+    sources: &mut BTreeMap<u32, Vec<RematSource>>,
+) -> Result<(), AllocError>
+    ensures { OnOk result ((n : ℕ) → sources_at sources.new n ≡ sources_at sources.old n ++ placed_at n (told_sources reading.now)) }
 {
-    if let Some(id) = reading.source {
-        sources.push(RematSource {
-            key: reading.demand.key,
-            id,
-        })?;
+    match reading.source {
+        None => Ok(()),
+        Some(id) => {
+            let key = reading.demand.key;
+            put_source(alloc, RematSource { key, id }, sources)
+        }
     }
+}
+
+/// Adds what is repeated for a reading, behind the others of its place.
+fn put_source(
+    alloc: Global,
+    source: RematSource,
+    sources: &mut BTreeMap<u32, Vec<RematSource>>,
+) -> Result<(), AllocError>
+    ensures { OnOk result ((n : ℕ) → sources_at sources.new n ≡ sources_at sources.old n ++ placed_at n (source ∷ [])) }
+{
+    let mut list = take_sources(alloc, source.key.at, sources);
+    list.push(source)?;
+    sources.insert(source.key.at, list)?;
     Ok(())
+}
+
+/// Takes what is repeated for the readings at a place out of a map.
+fn take_sources(
+    alloc: Global,
+    at: u32,
+    sources: &mut BTreeMap<u32, Vec<RematSource>>,
+) -> Vec<RematSource>
+    ensures list { result.items ≡ sources_at sources.old at }
+    ensures others { (n : ℕ) → get nat_cmp sources.new n ≡ cond (nat_eq at n) None (get nat_cmp sources.old n) }
+{
+    match sources.remove(&at) {
+        None => Vec::new(alloc),
+        Some(list) => list,
+    }
 }
 
 /// The definitions that go.
@@ -919,10 +985,10 @@ fn deleted_of(
     view: SpillView<'_>,
     definitions: &[Definition],
     readings: &[RematUse],
-) -> Result<Vec<u32>, AllocError>
-    ensures { IfOk result (λ gone. (slot : ℕ) (facts : Facts) (test : ℕ → Bool) → FindsInstrs view.entry.live.now.table view.entry.live.now.func.blocks → TestsNeedless (spilling_of view.entry slot facts) definitions.now readings.now test → gone.items ≡ filter test (map (λ d. d.id) definitions.now)) }
+) -> Result<BTreeSet<u32>, AllocError>
+    ensures { IfOk result (λ gone. (slot : ℕ) (facts : Facts) (test : ℕ → Bool) → FindsInstrs view.entry.live.now.table view.entry.live.now.func.blocks → TestsNeedless (spilling_of view.entry slot facts) definitions.now readings.now test → (n : ℕ) → has n gone.keys ≡ has n (filter test (map (λ d. d.id) definitions.now))) }
 {
-    let mut deleted = Vec::new(view.alloc);
+    let mut deleted = BTreeSet::new(view.alloc);
     'definitions: for definition in definitions {
         add_deleted(view, definition, readings, &mut deleted)?;
     }
@@ -934,14 +1000,14 @@ fn add_deleted(
     view: SpillView<'_>,
     definition: &Definition,
     readings: &[RematUse],
-    deleted: &mut Vec<u32>,
+    deleted: &mut BTreeSet<u32>,
 ) -> Result<(), AllocError>
-    ensures { OnOk result ((slot : ℕ) (facts : Facts) (test : ℕ → Bool) → FindsInstrs view.entry.live.now.table view.entry.live.now.func.blocks → TestsOne (spilling_of view.entry slot facts) definition.now readings.now test → deleted.new.items ≡ deleted.old.items ++ filter test (definition.now.id ∷ [])) }
+    ensures { OnOk result ((slot : ℕ) (facts : Facts) (test : ℕ → Bool) → FindsInstrs view.entry.live.now.table view.entry.live.now.func.blocks → TestsOne (spilling_of view.entry slot facts) definition.now readings.now test → (n : ℕ) → has n deleted.new.keys ≡ (has n deleted.old.keys || has n (filter test (definition.now.id ∷ [])))) }
 {
     if !is_needless(view, definition, readings) {
         return Ok(());
     }
-    deleted.push(definition.id)?;
+    deleted.insert(definition.id)?;
     Ok(())
 }
 

@@ -1,4 +1,5 @@
 use Rattle.std.proofs.Common.{◌≡◌, ℕ, Bool, filter, map, take}
+use Rattle.mir_meaning.specs.Paths.{has}
 use Rattle.live_lanes.specs.Touching.{FindsInstrs}
 use Rattle.spiller.specs.declared.reaching.Definition.{Definition}
 use Rattle.spiller.specs.Listed.{TestsNeedless}
@@ -9,4 +10,4 @@ use Rattle.spiller.proofs.remat.deleted_of.Given as goal
 abbrev pub invariant-definitions : goal.invariant-definitions
 invariant-definitions l =
     (slot : ℕ) (facts : Facts) (test : ℕ → Bool) → FindsInstrs l.view.live.now.table l.view.live.now.func.blocks → TestsNeedless (spilling_of l.view slot facts) l.definitions l.readings test
-    → l.deleted.items ≡ filter test (map (λ (d : Definition). d.id) (take l.definition-index l.definitions))
+    → (n : ℕ) → has n l.deleted.keys ≡ has n (filter test (map (λ (d : Definition). d.id) (take l.definition-index l.definitions)))
