@@ -1,6 +1,6 @@
 -- What a matrix tells of clashes.
 use Rattle.std.proofs.Common.{◌≡◌, ◌≤◌, ◌<◌, ◌+◌, ◌⊎◌, ℕ, zero, suc, Bool, true, false, cond, not, ◌&&◌, List, [], ◌∷◌, Option, None, Some, map, length, inl, inr, refl, sym, ap, ◌∙◌, subst, arith, eqb-true, eq-eqb, ne_eqb}
-use Rattle.std.specs.Prelude.{◌||◌, Decides, is_some, nat_eq, nat_le, nat_lt, slice_get, flat_map, option_map}
+use Rattle.std.specs.Prelude.{◌≢◌, ◌||◌, Decides, is_some, nat_eq, nat_le, nat_lt, slice_get, flat_map, option_map}
 use Rattle.std.specs.List.{list_any}
 use Rattle.std.proofs.lemmas.Bool.{leb-true, leb-false, le-leb, ltb-true}
 use Rattle.std.proofs.lemmas.List.{length-map}
@@ -51,7 +51,7 @@ use Rattle.interference.specs.Clashes.{Points, register_in, holds, touches, is_t
 use Rattle.evictor.specs.Cheapest.{UnitInTheWay, InTheWay, Facts, AreFacts}
 use Rattle.evictor.specs.Hints.{assignment_of}
 use Rattle.point_laws.specs.Covered.{rank_of, LiesIn}
-use Rattle.alloc_laws.specs.Clashes.Holds.{IsIn, Holds}
+use Rattle.alloc_laws.specs.Clashes.Holds.{IsIn, IsHolding, Holds}
 use Rattle.alloc_laws.specs.Clashes.Facts.{IsExact, ClashesLaw, FactsLaw}
 use Rattle.alloc_laws.proofs.Clashes.Free.{no-pieces}
 use Rattle.point_laws.proofs.Pieces.{any-of}
@@ -312,22 +312,61 @@ module _ (m : Matrix) (computed : IsComputed m.live.target m.live.func m.live.ta
 
   -- ranges
 
-  module _ (holding : Holds m) (v : ℕ) (none : register_in m.registers.items v ≡ None) where
-    abbrev InWay : Reg → ℕ → Type 0
-    InWay r w = (q : Reg) × (register_in m.registers.items w ≡ Some q) × RangesClash t f v r w q
+  abbrev pub InWay : ℕ → Reg → ℕ → Type 0
+  InWay v r w = (q : Reg) × (register_in m.registers.items w ≡ Some q) × RangesClash t f v r w q
 
-    lane-numbered : (q : Option ℕ) (p : ℕ) (e : Extent) → Member e (lane_extents x q p) → (n : ℕ) × (q ≡ Some n) × Member e (extents_in x n p)
-    lane-numbered None p e j = absurd (member-none e j)
-    lane-numbered (Some n) p e j = (n, refl, j)
+  lane-numbered : (q : Option ℕ) (p : ℕ) (e : Extent) → Member e (lane_extents x q p) → (n : ℕ) × (q ≡ Some n) × Member e (extents_in x n p)
+  lane-numbered None p e j = absurd (member-none e j)
+  lane-numbered (Some n) p e j = (n, refl, j)
 
-    unit-in : (q : Reg) (k u : ℕ) → slice_get (map (λ n. n.0) (units_of t q)) k ≡ Some u → (n : UnitNumber) × (slice_get (units_of t q) k ≡ Some n) × (n.0 ≡ u)
-    unit-in q k u e = go (slice_get (units_of t q) k) refl (sym (slice-map (λ n. n.0) (units_of t q) k) ∙ e)
-      where
-        go : (o : Option UnitNumber) → slice_get (units_of t q) k ≡ o → option_map (λ n. n.0) o ≡ Some u → (n : UnitNumber) × (slice_get (units_of t q) k ≡ Some n) × (n.0 ≡ u)
-        go None g h = absurd (cc)
-        go (Some n) g h = (n, g, cc)
+  unit-in : (q : Reg) (k u : ℕ) → slice_get (map (λ n. n.0) (units_of t q)) k ≡ Some u → (n : UnitNumber) × (slice_get (units_of t q) k ≡ Some n) × (n.0 ≡ u)
+  unit-in q k u e = go (slice_get (units_of t q) k) refl (sym (slice-map (λ n. n.0) (units_of t q) k) ∙ e)
+    where
+      go : (o : Option UnitNumber) → slice_get (units_of t q) k ≡ o → option_map (λ n. n.0) o ≡ Some u → (n : UnitNumber) × (slice_get (units_of t q) k ≡ Some n) × (n.0 ≡ u)
+      go None g h = absurd (cc)
+      go (Some n) g h = (n, g, cc)
 
-    way-forth : (r : Reg) (w : ℕ) → is_in_way m v r w ≡ true → InWay r w
+  same-unit : (a b : UnitNumber) → a.0 ≡ b.0 → a ≡ b
+  same-unit a b e = ap unit_number e
+
+  shared : (n p k : ℕ) (d e : Extent) → Member d (extents_in x n p) → Member e (extents_in x k p) → first_rank ranks e ≤ last_rank ranks d → first_rank ranks d ≤ last_rank ranks e → (at : ℕ) × LiesIn (stretch_of ranks d) at × LiesIn (stretch_of ranks e) at
+  shared n p k d e i j high low = go (nat_le (first_rank ranks d) (first_rank ranks e)) refl
+    where
+      fills-d : first_rank ranks d ≤ last_rank ranks d
+      fills-d = (covers-all t f x computed rules last).filled n p d i
+
+      fills-e : first_rank ranks e ≤ last_rank ranks e
+      fills-e = (covers-all t f x computed rules last).filled k p e j
+
+      go : (u : Bool) → nat_le (first_rank ranks d) (first_rank ranks e) ≡ u → (at : ℕ) × LiesIn (stretch_of ranks d) at × LiesIn (stretch_of ranks e) at
+      go true g = (first_rank ranks e, (leb-true (first_rank ranks d) (first_rank ranks e) g, high), (omega arith, fills-e))
+      go false g = let lt = leb-false (first_rank ranks d) (first_rank ranks e) g in (first_rank ranks d, (omega arith, fills-d), (omega (arith, lt), low))
+
+  -- two ranges clash where lanes of theirs that they hold in one unit have extents with a number in common
+  lanes-clash : (v w : ℕ) (r q : Reg) (j k : ℕ) (u : UnitNumber) (p : ℕ) (d e : Extent) → slice_get (units_of t r) j ≡ Some u → slice_get (units_of t q) k ≡ Some u
+      → Member d (lane_extents x (number_in x.lanes (owners.Range v j)) p) → Member e (lane_extents x (number_in x.lanes (owners.Range w k)) p)
+      → first_rank ranks e ≤ last_rank ranks d → first_rank ranks d ≤ last_rank ranks e → RangesClash t f v r w q
+  lanes-clash v w r q j k u p d e one other first-member second-member high low =
+      let a = lane-numbered (number_in x.lanes (owners.Range v j)) p d first-member in
+      let b = lane-numbered (number_in x.lanes (owners.Range w k)) p e second-member in
+      let at = shared a.0 p b.0 d e a.2 b.2 high low in
+      let c = common t f x computed rules last a.0 b.0 p at.0 d e a.2 b.2 at.1 at.2 in (
+        c.point,
+        u,
+        record { k = j; occupied = occupied-there v j a.0 p c.block c.point a.1 c.at c.member c.one; unit = one },
+        record { k = k; occupied = occupied-there w k b.0 p c.block c.point b.1 c.at c.member c.other; unit = other },
+      )
+
+  -- and so do two that hold one unit by their registers
+  pub holders-clash : (u p : ℕ) (d e : RangeExtent) (g : IsHolding m u p d) (h : IsHolding m u p e) → first_rank ranks e.extent ≤ last_rank ranks d.extent → first_rank ranks d.extent ≤ last_rank ranks e.extent
+      → RangesClash t f d.range g.1.0 e.range h.1.0
+  holders-clash u p d e (j, (r, has, at), one) (k, (q, owns, there), other) high low =
+      let a = unit-in r j u at in
+      let b = unit-in q k u there in
+      lanes-clash d.range e.range r q j k a.0 p d.extent e.extent a.1 (b.1 ∙ ap Some (same-unit b.0 a.0 (b.2 ∙ sym a.2))) one other high low
+
+  module _ (holding : Holds m) (v : ℕ) where
+    way-forth : (r : Reg) (w : ℕ) → is_in_way m v r w ≡ true → InWay v r w
     way-forth r w h =
         let y = any-of (is_taken_at m w) (points_in m v r) (both-right (not (nat_eq w v)) (list_any (is_taken_at m w) (points_in m v r)) h) in
         let z = points-of v r y.1 (slice-member (points_in m v r) y.0 y.1 y.2) in
@@ -335,48 +374,21 @@ module _ (m : Matrix) (computed : IsComputed m.live.target m.live.func m.live.ta
         let g = any-of (λ d. nat_eq d.range w && touches ranks (stretch_of ranks z.extent) d) (holds m z.unit.0 z.position) taken in
         by z g.1 (slice-member (holds m z.unit.0 z.position) g.0 g.1 g.2) (eqb-true g.1.range w (both-left (nat_eq g.1.range w) (touches ranks (stretch_of ranks z.extent) g.1) g.3)) (both-right (nat_eq g.1.range w) (touches ranks (stretch_of ranks z.extent) g.1) g.3)
       where
-        by : {s : Points} (z : Taken x v 0 (units_of t r) s) (d : RangeExtent) → Member d (holds m z.unit.0 z.position) → d.range ≡ w → touches ranks (stretch_of ranks z.extent) d ≡ true → InWay r w
+        by : {s : Points} (z : Taken x v 0 (units_of t r) s) (d : RangeExtent) → Member d (holds m z.unit.0 z.position) → d.range ≡ w → touches ranks (stretch_of ranks z.extent) d ≡ true → InWay v r w
         by z d j same meets =
             let held-there = (holding z.unit.0 z.position d).0 j in
             let q = held-there.1 in
-            let lane = lane-numbered (number_in x.lanes (owners.Range d.range held-there.0)) z.position d.extent held-there.2 in
             let unit = unit-in q.0 held-there.0 z.unit.0 q.2 in
             let high = leb-true (first_rank ranks d.extent) (last_rank ranks z.extent) (both-left (nat_le (first_rank ranks d.extent) (last_rank ranks z.extent)) (nat_le (first_rank ranks z.extent) (last_rank ranks d.extent)) meets) in
             let low = leb-true (first_rank ranks z.extent) (last_rank ranks d.extent) (both-right (nat_le (first_rank ranks d.extent) (last_rank ranks z.extent)) (nat_le (first_rank ranks z.extent) (last_rank ranks d.extent)) meets) in
-            let at = shared z.number z.position lane.0 z.extent d.extent z.member lane.2 high low in
-            let c = common t f x computed rules last z.number lane.0 z.position at.0 z.extent d.extent z.member lane.2 at.1 at.2 in (
+            let member : Member z.extent (lane_extents x (number_in x.lanes (owners.Range v z.k)) z.position) = subst (λ o. Member z.extent (lane_extents x o z.position)) (sym (numbered-by v z.k (Some z.number) z.numbered)) z.member in (
               q.0,
               subst (λ i. register_in m.registers.items i ≡ Some q.0) same q.1,
-              (
-                c.point,
-                z.unit,
-                record { k = z.k; occupied = occupied-there v z.k z.number z.position c.block c.point (numbered-by v z.k (Some z.number) z.numbered) c.at c.member c.one; unit = z.at },
-                record {
-                  k = held-there.0;
-                  occupied = occupied-there w held-there.0 lane.0 z.position c.block c.point (ap (λ i. number_in x.lanes (owners.Range i held-there.0)) (sym same) ∙ lane.1) c.at c.member c.other;
-                  unit = unit.1 ∙ ap Some (same-unit unit.0 z.unit unit.2);
-                },
-              ),
+              subst (λ i. RangesClash t f v r i q.0) same (lanes-clash v d.range r q.0 z.k held-there.0 z.unit z.position z.extent d.extent z.at (unit.1 ∙ ap Some (same-unit unit.0 z.unit unit.2)) member held-there.2 high low),
             )
-          where
-            same-unit : (a b : UnitNumber) → a.0 ≡ b.0 → a ≡ b
-            same-unit a b e = ap unit_number e
 
-            shared : (n p k : ℕ) (d e : Extent) → Member d (extents_in x n p) → Member e (extents_in x k p) → first_rank ranks e ≤ last_rank ranks d → first_rank ranks d ≤ last_rank ranks e → (at : ℕ) × LiesIn (stretch_of ranks d) at × LiesIn (stretch_of ranks e) at
-            shared n p k d e i j high low = go (nat_le (first_rank ranks d) (first_rank ranks e)) refl
-              where
-                fills-d : first_rank ranks d ≤ last_rank ranks d
-                fills-d = (covers-all t f x computed rules last).filled n p d i
-
-                fills-e : first_rank ranks e ≤ last_rank ranks e
-                fills-e = (covers-all t f x computed rules last).filled k p e j
-
-                go : (u : Bool) → nat_le (first_rank ranks d) (first_rank ranks e) ≡ u → (at : ℕ) × LiesIn (stretch_of ranks d) at × LiesIn (stretch_of ranks e) at
-                go true g = (first_rank ranks e, (leb-true (first_rank ranks d) (first_rank ranks e) g, high), (omega arith, fills-e))
-                go false g = let lt = leb-false (first_rank ranks d) (first_rank ranks e) g in (first_rank ranks d, (omega arith, fills-d), (omega (arith, lt), low))
-
-    way-back : (r : Reg) (w : ℕ) → InWay r w → is_in_way m v r w ≡ true
-    way-back r w (q, assigned, (p, u, h, g)) =
+    pub way-back : (r : Reg) (w : ℕ) → v ≢ w → InWay v r w → is_in_way m v r w ≡ true
+    way-back r w differ (q, assigned, (p, u, h, g)) =
         let z : Placed f p = placed t f x computed rules last (VirtualLane v h.k) p h.occupied in
         let s = stretched v r u h.k p z h.occupied h.unit in
         let n = spot-in w g.k p z g.occupied in
@@ -386,7 +398,7 @@ module _ (m : Matrix) (computed : IsComputed m.live.target m.live.func m.live.ta
         let listed : Member d (holds m u.0 z.position) = (holding u.0 z.position d).1 (g.k, there, subst (λ o. Member e.0 (lane_extents x o z.position)) (sym n.1) e.1) in
         let meets : touches ranks (stretch_of ranks s.extent) d ≡ true = overlapping s.extent e.0 (rank_of ranks p) s.lies e.2 in
         let taken : is_taken_by ranks (holds m u.0 z.position) w (stretch_of ranks s.extent) ≡ true = any-in (λ c. nat_eq c.range w && touches ranks (stretch_of ranks s.extent) c) d (holds m u.0 z.position) listed (both (nat_eq w w) (touches ranks (stretch_of ranks s.extent) d) (eq-eqb w w refl) meets) in
-        both (not (nat_eq w v)) (list_any (is_taken_at m w) (points_in m v r)) (ap not (ne_eqb w v (λ same. let a : None ≡ Some q = sym none ∙ ap (register_in m.registers.items) (sym same) ∙ assigned in cc))) (any-in (is_taken_at m w) (point_of x u.0 z.position s.extent) (points_in m v r) s.points taken)
+        both (not (nat_eq w v)) (list_any (is_taken_at m w) (points_in m v r)) (ap not (ne_eqb w v (λ same. differ (sym same)))) (any-in (is_taken_at m w) (point_of x u.0 z.position s.extent) (points_in m v r) s.points taken)
       where
         overlapping : (c d : Extent) (at : ℕ) → LiesIn (stretch_of ranks c) at → LiesIn (stretch_of ranks d) at → (nat_le (first_rank ranks d) (last_rank ranks c) && nat_le (first_rank ranks c) (last_rank ranks d)) ≡ true
         overlapping c d at i j = both (nat_le (first_rank ranks d) (last_rank ranks c)) (nat_le (first_rank ranks c) (last_rank ranks d)) (le-leb (first_rank ranks d) (last_rank ranks c) (omega (arith, i, j))) (le-leb (first_rank ranks c) (last_rank ranks d) (omega (arith, i, j)))
@@ -397,7 +409,10 @@ module _ (m : Matrix) (exact : IsExact m) (v : ℕ) where
 
   module _ (none : register_in m.registers.items v ≡ None) where
     pub way-tests : Tests (λ (p : Reg × ℕ). InTheWay m.live.target m.live.func (assignment_of m) v p.0 p.1) (λ p. is_in_way m v p.0 p.1)
-    way-tests p = (way-forth m exact.computed exact.rules exact.last exact.holds v none p.0 p.1, way-back m exact.computed exact.rules exact.last exact.holds v none p.0 p.1)
+    way-tests p = (
+      way-forth m exact.computed exact.rules exact.last exact.holds v p.0 p.1,
+      λ way. way-back m exact.computed exact.rules exact.last exact.holds v p.0 p.1 (λ same. let a : None ≡ Some way.0 = sym none ∙ ap (register_in m.registers.items) same ∙ way.1 in cc) way,
+    )
 
     counted : (w : ℕ) → PointCount m.live.target m.live.func w (range_held m.live.table m.live.func.blocks w)
     counted w = (points-law m.live.target m.live.func m.live.table exact.computed exact.rules exact.last).count w

@@ -38,7 +38,7 @@ use Rattle.point_laws.proofs.Covered.{no-body, the-body, some_steps}
 use Rattle.live_laws.proofs.Exact.Inside.{all}
 use Rattle.point_laws.proofs.Pieces.{IsPiece, at_start, at_writing}
 
-listed : {X : Type 0} (x : X) (xs : List X) → Among x xs → Member x xs
+pub listed : {X : Type 0} (x : X) (xs : List X) → Among x xs → Member x xs
 listed x [] a = absurd (none-among x a)
 listed x (y ∷ xs) a = go (among-cases x y xs a) (λ b. listed x xs b)
   where

@@ -9,6 +9,10 @@ use Rattle.target_base.specs.declared.types.Target.{Target}
 use Rattle.target_base.specs.declared.types.Unit.{Unit as UnitNumber}
 use Rattle.target_base.specs.Registers.{units_of}
 use Rattle.meaning.specs.Live.{Among as Member, here as first, there as later}
+use Rattle.mir_func.specs.declared.func.Block.{Block}
+use Rattle.mir_func.specs.declared.func.Instr.{Instr}
+use Rattle.mir_meaning.specs.Rules.{V8}
+use Rattle.live_laws.specs.Effects.Coded.{KeepsRules}
 use Rattle.slot_index.specs.Order.{number_of}
 use Rattle.instr_effects.specs.declared.owner.Owner.TheVariants as owners
 use Rattle.instr_effects.specs.Numbered.{number_in}
@@ -22,13 +26,15 @@ use Rattle.live_lanes.specs.declared.table.Table.{Table}
 use Rattle.live_lanes.specs.Table.{Numbers, Seen, begun, find_cell, seen, seen_cell, seen_in, unseen, entry_rank, exit_rank, end_rank, rises_from}
 use Rattle.live_lanes.specs.Extents.{some_extents, segment_extent, last_rank}
 use Rattle.live_lanes.specs.Held.{hold_rank}
+use Rattle.live_lanes.specs.Doing.{IsComputed}
+use Rattle.live_lanes.specs.Looks.{InOrder}
 use Rattle.live_lanes.specs.Reach.{is_never}
 use Rattle.live_lanes.proofs.Cells.{both-left, both-right}
 use Rattle.interference.specs.declared.held.RangeExtent.{RangeExtent}
 use Rattle.interference.specs.declared.matrix.Matrix.{Matrix}
 use Rattle.interference.specs.Clashes.{register_in, holds}
 use Rattle.interference.specs.Changes.{own_of}
-use Rattle.interference.specs.Listed.{AreInTurn, KeepsLists, extents_by, has_some, lane_extents, range_extents}
+use Rattle.interference.specs.Listed.{AreInTurn, KeepsLists, LiesInTurn, extents_by, has_some, lane_extents, range_extents}
 use Rattle.interference.proofs.Starts.{cell-list}
 use Rattle.split_choose.specs.Seen.{turns_from, ends_in_turn}
 use Rattle.point_laws.proofs.Covered.{covered-law}
@@ -88,15 +94,16 @@ range-in x v j (w ∷ us) u b e (suc k) at m =
     right-in e (cond (nat_eq w.0 u) (lane_extents x (number_in x.lanes (owners.Range v j)) b) []) (range_extents x v (suc j) us u b)
     (range-in x v (suc j) us u b e k at (subst (λ i. Member e (lane_extents x (number_in x.lanes (owners.Range v i)) b)) same m))
 
-module _ (m : Matrix) (keeps : KeepsLists m) where
+module _ (m : Matrix) where
   abbrev t : Target
   t = m.live.target
 
   abbrev x : Table
   x = m.live.table
 
-  held-forth : (u b v : ℕ) (e : Extent) → Member (record { range = v; extent = e }) (holds m u b) → IsHolding m u b (record { range = v; extent = e })
-  held-forth u b v e k = go (register_in m.registers.items v) refl (subst (Member e) (keeps.listed v u b) (own-of v (holds m u b) e k))
+  -- what a range has by its register it holds
+  pub whole-holding : (u b v : ℕ) (e : Extent) → Member e (extents_by t x v (register_in m.registers.items v) u b) → IsHolding m u b (record { range = v; extent = e })
+  whole-holding u b v e k = go (register_in m.registers.items v) refl k
     where
       go : (q : Option Reg) → register_in m.registers.items v ≡ q → Member e (extents_by t x v q u b) → IsHolding m u b (record { range = v; extent = e })
       go None r j = absurd (member-none e j)
@@ -105,11 +112,15 @@ module _ (m : Matrix) (keeps : KeepsLists m) where
           let same : 0 + z.0 ≡ z.0 = omega arith in
           (z.0, (p, r, z.1), subst (λ i. Member e (lane_extents x (number_in x.lanes (owners.Range v i)) b)) same z.2)
 
+module _ (m : Matrix) (keeps : KeepsLists m) where
+  held-forth : (u b v : ℕ) (e : Extent) → Member (record { range = v; extent = e }) (holds m u b) → IsHolding m u b (record { range = v; extent = e })
+  held-forth u b v e k = whole-holding m u b v e (subst (Member e) (keeps.listed v u b) (own-of v (holds m u b) e k))
+
   held-back : (u b v : ℕ) (e : Extent) → IsHolding m u b (record { range = v; extent = e }) → Member (record { range = v; extent = e }) (holds m u b)
   held-back u b v e (k, (p, r, at), j) =
       let same : k ≡ 0 + k = omega arith in
-      own-in v (holds m u b) e (subst (Member e) (sym (keeps.listed v u b ∙ ap (λ q. extents_by t x v q u b) r))
-      (range-in x v 0 (units_of t p) u b e k at (subst (λ i. Member e (lane_extents x (number_in x.lanes (owners.Range v i)) b)) same j)))
+      own-in v (holds m u b) e (subst (Member e) (sym (keeps.listed v u b ∙ ap (λ q. extents_by m.live.target m.live.table v q u b) r))
+      (range-in m.live.table v 0 (units_of m.live.target p) u b e k at (subst (λ i. Member e (lane_extents m.live.table (number_in m.live.table.lanes (owners.Range v i)) b)) same j)))
 
   pub listed-holds : Holds m
   listed-holds u b h = (held-forth u b h.range h.extent, held-back u b h.range h.extent)
@@ -142,11 +153,13 @@ some-member : (es : List Extent) → has_some es ≡ true → (e : Extent) × Me
 some-member [] h = absurd (cc)
 some-member (e ∷ es) h = (e, first)
 
-pub kept-law : KeptLaw
-kept-law m computed rules last keeps = (record { computed = computed; rules = rules; last = last; holds = listed-holds m keeps }, record { turns = turns; within = within })
+-- the extents of the lanes of a computed table in order come one behind the other
+pub lies-in-turn : (m : Matrix) → IsComputed m.live.target m.live.func m.live.table → KeepsRules m.live.target m.live.func
+    → ((b : Block) (j : ℕ) (i : Instr) → Member b m.live.func.blocks → slice_get b.instrs j ≡ Some i → V8 m.live.target b j i ≡ true) → InOrder m.live.table → LiesInTurn m
+lies-in-turn m computed rules last order = record { turns = turns; within = within }
   where
     turns : (l b : ℕ) → AreInTurn m.live.table.order.slots 0 (lane_extents m.live.table (Some l) b)
-    turns l b = go (slice_get m.live.table.rows.rows.items l) (keeps.ordered.table l b) ((pieces-found m.live.target m.live.func m.live.table computed rules last).turns l b)
+    turns l b = go (slice_get m.live.table.rows.rows.items l) (order l b) ((pieces-found m.live.target m.live.func m.live.table computed rules last).turns l b)
       where
         in-cell : (o : Option Cell) → rises_from m.live.table.order.slots 0 (seen o).segments ≡ true → ends_in_turn m.live.table.order.slots (seen o) ≡ true → AreInTurn m.live.table.order.slots 0 (some_extents o)
         in-cell None r t = tt
@@ -163,3 +176,6 @@ kept-law m computed rules last keeps = (record { computed = computed; rules = ru
         let e = some-member (lane_extents m.live.table (Some l) b) h in
         let z = (covered-law m.live.target m.live.func m.live.table computed rules last).begins l b e.0 e.1 in
         slice_get_within m.live.func.blocks b z.0 z.1
+
+pub kept-law : KeptLaw
+kept-law m computed rules last keeps = (record { computed = computed; rules = rules; last = last; holds = listed-holds m keeps }, lies-in-turn m computed rules last keeps.ordered.table)
